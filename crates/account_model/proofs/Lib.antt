@@ -19,6 +19,7 @@ pub mod UserdelScripts
 pub mod UsermodScripts
 pub mod ToolScripts
 pub mod ReportLaws
+pub mod SeenLemmas
 mod Commands
 mod UseraddRows
 mod UsermodRows

@@ -57,4 +57,5 @@ pub mod Settings
 pub mod Ids
 pub mod FreeRange
 pub mod Request
+pub mod SeenFiles
 pub mod BatchLines

@@ -1,11 +1,12 @@
 -- A table that is put in place has its content (`with_table-same`), and the others stay
--- (`with_table-other`).
-use Rattle.std.proofs.Common.{◌≡◌, refl, false, Option, true≢false}
+-- (`with_table-other`). Of each table just that is seen which is seen of its content (`seen-there`).
+use Rattle.std.proofs.Common.{◌≡◌, refl, false, List, Option, true≢false}
 use Rattle.acct_text.specs.declared.Tab.{Tab}
 use Rattle.acct_text.specs.declared.Tab.TheVariants.{Passwd, Shadow, Group, Gshadow, Subuid, Subgid}
 use Rattle.acct_text.specs.declared.files.Files.{Files}
 use Rattle.acct_text.specs.Bytes.{Bytes}
 use Rattle.acct_text.specs.Files.{table_of, with_table}
+use Rattle.acct_text.specs.SeenTables.{seen_of, seen_through}
 use Rattle.acct_text.specs.Tables.{same_table}
 
 -- the table that is put has its content
@@ -29,3 +30,13 @@ with_table-other Gshadow Gshadow content files differs = absurd (true≢false di
 with_table-other Subuid Subuid content files differs = absurd (true≢false differs)
 with_table-other Subgid Subgid content files differs = absurd (true≢false differs)
 with_table-other table other content files differs = refl
+
+-- of each table that is seen which is seen of its content
+pub seen-there : (tables : List Tab) (files : Files) (table : Tab) →
+    table_of (seen_through tables files) table ≡ seen_of tables table (table_of files table)
+seen-there tables files Passwd = refl
+seen-there tables files Shadow = refl
+seen-there tables files Group = refl
+seen-there tables files Gshadow = refl
+seen-there tables files Subuid = refl
+seen-there tables files Subgid = refl

@@ -2,6 +2,7 @@
 ghost use Rattle.std.specs.Prelude.{◌≡◌, IfOk};
 ghost use Rattle.std.specs.Option.{option_copied};
 ghost use Rattle.acct_text.specs.Files.{no_files, table_of, with_table};
+ghost use Rattle.acct_text.specs.SeenTables.{is_among, seen_of, seen_through};
 
 use crate::{Bytes, Tab};
 use std::alloc::{AllocError, Global};
@@ -65,6 +66,18 @@ impl Files {
         }
     }
 
+    /// Leaves these tables alone to be seen: each other one is empty.
+    pub fn see_only(&mut self, alloc: Global, tables: &[Tab])
+        ensures { self.new ≡ seen_through tables.now self.old }
+    {
+        hide(alloc, tables, Tab::Passwd, &mut self.passwd);
+        hide(alloc, tables, Tab::Shadow, &mut self.shadow);
+        hide(alloc, tables, Tab::Group, &mut self.group);
+        hide(alloc, tables, Tab::Gshadow, &mut self.gshadow);
+        hide(alloc, tables, Tab::Subuid, &mut self.subuid);
+        hide(alloc, tables, Tab::Subgid, &mut self.subgid);
+    }
+
     /// Second files with the same bytes, of which the same are absent.
     pub fn copy(&self, alloc: Global) -> Result<Self, AllocError>
         ensures { IfOk result (λ files. files ≡ self.now) }
@@ -92,6 +105,22 @@ impl Files {
             Tab::Subgid => self.subgid.as_ref(),
         }
     }
+}
+
+// Makes the table empty where it isn't one of these.
+fn hide(alloc: Global, tables: &[Tab], table: Tab, content: &mut Option<Bytes>)
+    ensures { content.new ≡ seen_of tables.now table content.old }
+{
+    if !is_among(tables, table) {
+        *content = Some(Bytes::new(alloc));
+    }
+}
+
+// Whether the table is one of these.
+fn is_among(tables: &[Tab], table: Tab) -> bool
+    ensures { result ≡ is_among tables.now table }
+{
+    tables.iter().any(|other| *other == table)
 }
 
 // The file again, absent where it was.

@@ -1,6 +1,6 @@
 -- Claims: what is kept is what was found, before the first read behind the intent (`begun-found`) and after
 -- each (`read-found`); the names that are left are unread (`first-unread`, `rest-unread`), and the files
--- within their limit (`small-listed`, `small-with`).
+-- within their limit (`small-seen`, `small-with`).
 -- Way: a file that is read changes what is kept of its own name alone (`kept-there`, `kept-elsewhere`). Of
 -- the inputs those are left that aren't listed (`in-filter`), each once.
 use Rattle.std.proofs.Common.{◌≡◌, refl, sym, ap, ap₂, subst, ◌∙◌, ℕ, suc, ◌<◌, ◌≤◌, Bool, true, false, ◌||◌, ◌&&◌, if◌then◌else◌, List, [], ◌∷◌, ◌++◌, length, filter, get_or, drop, drop-cons, append_assoc, Option, Some, None, All, true≢false, arith}
@@ -16,6 +16,7 @@ use Rattle.acct_text.specs.declared.files.Files.{Files}
 use Rattle.acct_text.specs.Bytes.{Bytes}
 use Rattle.acct_text.specs.Files.{no_files, table_of, with_table}
 use Rattle.acct_text.specs.Limits.{table_limit}
+use Rattle.acct_text.specs.SeenTables.{is_among, seen_of, seen_through}
 use Rattle.acct_text.specs.Tables.{same_table}
 use Rattle.acct_outside.specs.declared.Name.{Name}
 use Rattle.acct_outside.specs.declared.Name.TheVariants.{Table, Backup, Staged, Intent, IntentStage, BackupStage, FreeStage, Lock, Defs}
@@ -27,8 +28,8 @@ use Rattle.suite_rules.specs.Listing.{watched_with}
 use Rattle.suite_rules.proofs.Names.{table-is, table-same, table-turned, name-is, fails-apart}
 use Rattle.suite_rules.proofs.Numbers.{number-same}
 use Rattle.lock_steps.specs.declared.gathered.IntentFound.{IntentFound}
-use Rattle.lock_steps.specs.Gathered.{AreSmall, AreUnread, Gathered, HasFound, TellsIntent, content_at, defs_with, files_with, awaits, first_gathered, found_as, gathered_at, held_of, inputs, is_in, is_large, is_listed_at, is_readable, lacks, large_with, listed_at, names_behind, with_content, with_found, with_listed}
-use Rattle.acct_text.proofs.FilesLemmas.{with_table-same, with_table-other}
+use Rattle.lock_steps.specs.Gathered.{AreSmall, AreUnread, Gathered, HasFound, TellsIntent, content_at, defs_with, files_with, awaits, first_gathered, found_as, gathered_at, held_of, inputs, is_in, is_known, is_large, is_readable, known_of, lacks, large_with, listed_at, names_behind, with_content, with_found, with_listed}
+use Rattle.acct_text.proofs.FilesLemmas.{seen-there, with_table-same, with_table-other}
 
 -- a name is the same as itself by the test
 name-same : (name : Name) → same_name name name ≡ true
@@ -83,7 +84,7 @@ none-there Subuid = refl
 none-there Subgid = refl
 
 -- the listed files are within the limit, where the listed tables are
-pub small-listed : (tables : List NewTable) → All (λ new. length new.bytes ≤ table_limit) tables →
+small-listed : (tables : List NewTable) → All (λ new. length new.bytes ≤ table_limit) tables →
     AreSmall (with_listed tables no_files) None
 small-listed [] all = record {
   tables = λ table bytes is. absurd (cc (sym (none-there table) ∙ is));
@@ -93,6 +94,24 @@ small-listed (new ∷ news) all =
     let Small : NewTable → Type 0 = λ new. length new.bytes ≤ table_limit in
     small-with new.table (Some new.bytes) (with_listed news no_files) None
     (small-listed news (All-tail Small new news all)) (All-head Small new news all)
+
+-- so are they as they are seen through some tables
+pub small-seen : (wanted : List Tab) (tables : List NewTable) →
+    All (λ new. length new.bytes ≤ table_limit) tables →
+    AreSmall (seen_through wanted (with_listed tables no_files)) None
+small-seen wanted tables all = record {
+  tables = λ table bytes is. cases table bytes (is_among wanted table)
+      (sym (seen-there wanted (with_listed tables no_files) table) ∙ is);
+  settings = tt;
+}
+  where
+    cases : (table : Tab) (bytes : Bytes) (among : Bool) →
+        (if among then table_of (with_listed tables no_files) table else Some []) ≡ Some bytes →
+        length bytes ≤ table_limit
+    cases table bytes true is = (small-listed tables all).tables table bytes is
+    cases table bytes false is =
+        let none : [] ≡ bytes = cc is in
+        subst (λ (one : Bytes). length one ≤ table_limit) none (omega arith)
 
 -- of the listed files each is as it is listed
 pub listed-there : (tables : List NewTable) (table : Tab) →
@@ -282,44 +301,48 @@ kept-there name input found gathered unread = kept found
         ∙ ap₂ (λ (was same : Bool). was || (same || false)) unread (name-same name))
 
 -- Before any other read, what is kept is what was found at the intent.
-pub begun-found : (watched : Name → Option Found) (found : Found) (intent : IntentFound) →
-    TellsIntent found intent →
-    HasFound (watched_with Intent found watched) (first_gathered intent (listed_at found))
-    (names_behind (first_gathered intent (listed_at found)))
-begun-found watched found intent told = record {
+pub begun-found : (wanted : List Tab) (watched : Name → Option Found) (found : Found)
+    (intent : IntentFound) → TellsIntent found intent →
+    HasFound wanted (watched_with Intent found watched)
+    (first_gathered wanted intent (listed_at found))
+    (names_behind (first_gathered wanted intent (listed_at found)))
+begun-found wanted watched found intent told = record {
   found = found;
   at_intent = refl;
   told = told;
-  listed = λ table new is. listed-there (listed_at found) table ∙ is;
-  taken = λ table new is. (
+  known = λ table bytes is. known-there table ∙ is;
+  taken = λ table bytes is. (
     refl,
     in-filter left (Table table) inputs ∙ and_left (left (Table table)) (is_in (Table table) inputs)
         (ap (λ (content : Option Bytes). is_readable intent && is_none content)
-        (listed-there (listed_at found) table ∙ is)
+        (known-there table ∙ is)
         ∙ and-false (is_readable intent)),
   );
-  unlisted = λ readable name input unlisted gone. absurd (true≢false (sym
+  unknown = λ readable name input unknown gone. absurd (true≢false (sym
       (in-filter left name inputs ∙ ap₂ (λ (one two : Bool). one && two)
-      (ap₂ (λ (one two : Bool). one && two) readable (lacks-it name unlisted))
+      (ap₂ (λ (one two : Bool). one && two) readable (lacks-it name unknown))
       (is-input name input))
       ∙ gone));
 }
   where
     files : Files
-    files = with_listed (listed_at found) no_files
+    files = seen_through wanted (with_listed (listed_at found) no_files)
 
     left : Name → Bool
-    left = awaits (first_gathered intent (listed_at found))
+    left = awaits (first_gathered wanted intent (listed_at found))
+
+    known-there : (table : Tab) → table_of files table ≡ known_of wanted found table
+    known-there table = seen-there wanted (with_listed (listed_at found) no_files) table
+        ∙ ap (seen_of wanted table) (listed-there (listed_at found) table)
 
     none-then : (content : Option Bytes) → is_some content ≡ false → is_none content ≡ true
     none-then None is = refl
     none-then (Some bytes) is = absurd (true≢false is)
 
-    lacks-it : (name : Name) → is_listed_at found name ≡ false → lacks files name ≡ true
-    lacks-it (Table table) unlisted =
-        ap is_none (listed-there (listed_at found) table)
-        ∙ none-then (listed_in (listed_at found) table) unlisted
-    lacks-it name unlisted = refl
+    lacks-it : (name : Name) → is_known wanted found name ≡ false → lacks files name ≡ true
+    lacks-it (Table table) unknown =
+        ap is_none (known-there table) ∙ none-then (known_of wanted found table) unknown
+    lacks-it name unknown = refl
 
     is-input : (name : Name) → is_input name ≡ true → is_in name inputs ≡ true
     is-input (Table Passwd) input = refl
@@ -332,44 +355,44 @@ begun-found watched found intent told = record {
     is-input name input = absurd (true≢false (sym input))
 
 -- Once the first of the names that are left is read, what is kept is what was found.
-pub read-found : (watched : Name → Option Found) (gathered : Gathered) (name : Name)
+pub read-found : (wanted : List Tab) (watched : Name → Option Found) (gathered : Gathered) (name : Name)
     (names : List Name) (found : Found) → AreUnread gathered.large (name ∷ names) →
-    HasFound watched gathered (name ∷ names) →
-    HasFound (watched_with name found watched) (with_found name found gathered) names
-read-found watched gathered name names found unread held = record {
+    HasFound wanted watched gathered (name ∷ names) →
+    HasFound wanted (watched_with name found watched) (with_found name found gathered) names
+read-found wanted watched gathered name names found unread held = record {
   found = held.found;
   at_intent = rw (fails-apart is_input Intent name refl unread.0) held.at_intent;
   told = held.told;
-  listed = λ table new is.
-      files-elsewhere name table (held_of found) gathered.files (other-table table new is)
-      ∙ held.listed table new is;
-  taken = λ table new is. (
-    large-elsewhere name (Table table) found gathered.large (other-table table new is)
-        ∙ (held.taken table new is).0,
+  known = λ table bytes is.
+      files-elsewhere name table (held_of found) gathered.files (other-table table bytes is)
+      ∙ held.known table bytes is;
+  taken = λ table bytes is. (
+    large-elsewhere name (Table table) found gathered.large (other-table table bytes is)
+        ∙ (held.taken table bytes is).0,
     (or_parts (same_name name (Table table)) (is_in (Table table) names)
-        (held.taken table new is).1).1,
+        (held.taken table bytes is).1).1,
   );
-  unlisted = λ readable other input unlisted gone.
-      cases readable other input unlisted gone (same_name other name) refl;
+  unknown = λ readable other input unknown gone.
+      cases readable other input unknown gone (same_name other name) refl;
 }
   where
-    other-table : (table : Tab) (new : Bytes) → listed_in (listed_at held.found) table ≡ Some new →
+    other-table : (table : Tab) (bytes : Bytes) → known_of wanted held.found table ≡ Some bytes →
         same_name (Table table) name ≡ false
-    other-table table new is = name-turned (Table table) name
+    other-table table bytes is = name-turned (Table table) name
         (or_parts (same_name name (Table table)) (is_in (Table table) names)
-        (held.taken table new is).1).0
+        (held.taken table bytes is).1).0
 
     cases : is_readable gathered.intent ≡ true → (other : Name) → is_input other ≡ true →
-        is_listed_at held.found other ≡ false → is_in other names ≡ false →
+        is_known wanted held.found other ≡ false → is_in other names ≡ false →
         (same : Bool) → same_name other name ≡ same →
         (if same_name other name then Some found else watched other)
         ≡ Some (gathered_at (with_found name found gathered) other)
-    cases readable other input unlisted gone true same = rw same
+    cases readable other input unknown gone true same = rw same
         (ap (λ (one : Found). let some : Option Found = Some one in some)
         (sym (ap (gathered_at (with_found name found gathered)) (name-is other name same)
         ∙ kept-there name unread.0 found gathered unread.1)))
-    cases readable other input unlisted gone false differs = rw differs
-        (held.unlisted readable other input unlisted
+    cases readable other input unknown gone false differs = rw differs
+        (held.unknown readable other input unknown
         (or_from (same_name name other) (is_in other names) (name-turned name other differs) gone)
         ∙ ap (λ (one : Found). let some : Option Found = Some one in some)
         (sym (kept-elsewhere name other found gathered differs)))

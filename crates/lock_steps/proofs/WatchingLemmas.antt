@@ -7,6 +7,7 @@ use Rattle.std.specs.Prelude.{IfOk, IfErr}
 use Rattle.std.proofs.lemmas.Bool.{and_from, and_parts, leb-true}
 use Rattle.std.proofs.lemmas.Bool.Decides.{Decides-eqb}
 use Rattle.std.proofs.lemmas.List.Elements.{All-cons, All-nil}
+use Rattle.acct_text.specs.declared.Tab.{Tab}
 use Rattle.acct_text.specs.Bytes.{Bytes}
 use Rattle.acct_outside.specs.declared.Name.{Name}
 use Rattle.acct_outside.specs.declared.Name.TheVariants.{Table, Intent, Lock, Defs}
@@ -70,17 +71,17 @@ input-name (Lock number) is = absurd (true≢false (sym is))
 input-name name is = tt
 
 -- the read of the intent leads from the judged lock to what was found
-begins : (watcher : Lister) (found : Found) (intent : IntentFound) → TellsIntent found intent →
-    (stood : Standing) → HasJudged watcher stood →
-    HasGathered (begun_reading watcher intent (listed_at found))
+begins : (watcher : Lister) (wanted : List Tab) (found : Found) (intent : IntentFound) →
+    TellsIntent found intent → (stood : Standing) → HasJudged watcher stood →
+    HasGathered (begun_reading watcher wanted intent (listed_at found))
     (standing_step (reads Intent) (done found) stood)
-begins watcher found intent told stood held = record {
+begins watcher wanted found intent told stood held = record {
   owns = held.owns;
   listing = record held.listing { watched = watched_with Intent found held.listing.watched };
   listed = ap (read_step Intent found) held.listed
       ∙ watches Intent refl found held.listing held.is_such;
   is_greatest = held.is_greatest;
-  is_such = (held.is_such, begun-found held.listing.watched found intent told);
+  is_such = (held.is_such, begun-found wanted held.listing.watched found intent told);
 }
 
 -- a further read adds what it found
@@ -98,8 +99,9 @@ goes-on reading (name ∷ names) is some unread found stood held = rw is (record
   is_greatest = held.is_greatest;
   is_such = (
     held.is_such.0,
-    read-found held.listing.watched reading.gathered name names found apart
-        (subst (λ (left : List Name). HasFound held.listing.watched reading.gathered left) is
+    read-found reading.wanted held.listing.watched reading.gathered name names found apart
+        (subst (λ (left : List Name).
+        HasFound reading.wanted held.listing.watched reading.gathered left) is
         held.is_such.1),
   );
 })
@@ -126,7 +128,8 @@ shows reading numbers is none stood held = record {
       ((Decides-eqb (greatest numbers) (greatest held.listing.numbers)).1
       (is ∙ sym held.is_greatest)));
   number = is;
-  is_found = subst (λ (left : List Name). HasFound held.listing.watched reading.gathered left)
+  is_found = subst (λ (left : List Name).
+      HasFound reading.wanted held.listing.watched reading.gathered left)
       (no-names reading.left none) held.is_such.1;
 }
 
@@ -134,20 +137,21 @@ shows reading numbers is none stood held = record {
 module _ (before now : Moment) (narrows : Narrows before.admits now.admits) (token : Token) where
   -- the read of the intent
   pub intent-leads :
-      (watcher : Lister) (answer : Result Found FolderFault) (result : Result Gatherer FolderFault)
-      → ReadsIntentFirst watcher answer result
+      (watcher : Lister) (wanted : List Tab) (answer : Result Found FolderFault)
+      (result : Result Gatherer FolderFault)
+      → ReadsIntentFirst watcher wanted answer result
       → StandsIn before token (HasJudged watcher)
       → Tells before now token (reads Intent) answer
       → IfOk result (λ reading. StandsIn now token (HasGathered reading))
-  intent-leads watcher (Ok found) (Ok reading) shown stands tells =
+  intent-leads watcher wanted (Ok found) (Ok reading) shown stands tells =
       stands-done before.admits now.admits narrows token (reads Intent) tt (HasJudged watcher)
       (HasGathered reading) found
       (λ stood held. subst (λ (one : Gatherer).
       HasGathered one (standing_step (reads Intent) (done found) stood)) (sym shown.1)
-      (begins watcher found reading.gathered.intent shown.0 stood held))
+      (begins watcher wanted found reading.gathered.intent shown.0 stood held))
       before.told now.told stands tells
-  intent-leads watcher (Err fault) (Ok reading) shown stands tells = absurd shown
-  intent-leads watcher answer (Err came) shown stands tells = tt
+  intent-leads watcher wanted (Err fault) (Ok reading) shown stands tells = absurd shown
+  intent-leads watcher wanted answer (Err came) shown stands tells = tt
 
   -- a read of the next name
   pub read-leads :
@@ -275,16 +279,16 @@ small-tables intended allowed = all intended.tables (allowed_parts intended allo
         (leb-true (length new.bytes) table_limit parts.0) (all tables parts.1)
 
 -- where the bytes at the intent lead on, the result is told as a read of them
-pub bytes-shown : (watcher : Lister) (bytes : Bytes) (intent : IntentFound) (tables : List NewTable)
-    (result : Result Gatherer FolderFault) → TellsIntent (found_bytes bytes) intent →
-    listed_by (Some bytes) ≡ tables →
-    IfOk result (λ reading. reading ≡ begun_reading watcher intent tables) →
+pub bytes-shown : (watcher : Lister) (wanted : List Tab) (bytes : Bytes) (intent : IntentFound)
+    (tables : List NewTable) (result : Result Gatherer FolderFault) →
+    TellsIntent (found_bytes bytes) intent → listed_by (Some bytes) ≡ tables →
+    IfOk result (λ reading. reading ≡ begun_reading watcher wanted intent tables) →
     IfErr result (λ fault. fault ≡ Memory) →
-    ReadsIntentFirst watcher (Ok (found_bytes bytes)) result
-bytes-shown watcher bytes intent tables (Ok reading) told listed begun failed =
+    ReadsIntentFirst watcher wanted (Ok (found_bytes bytes)) result
+bytes-shown watcher wanted bytes intent tables (Ok reading) told listed begun failed =
     let same = ap (λ (one : Gatherer). one.gathered.intent) begun in (
       subst (TellsIntent (found_bytes bytes)) (sym same) told,
-      begun ∙ ap₂ (begun_reading watcher) (sym same) (sym listed),
+      begun ∙ ap₂ (begun_reading watcher wanted) (sym same) (sym listed),
     )
-bytes-shown watcher bytes intent tables (Err Memory) told listed begun failed = tt
-bytes-shown watcher bytes intent tables (Err Failed) told listed begun failed = absurd (cc failed)
+bytes-shown watcher wanted bytes intent tables (Err Memory) told listed begun failed = tt
+bytes-shown watcher wanted bytes intent tables (Err Failed) told listed begun failed = absurd (cc failed)

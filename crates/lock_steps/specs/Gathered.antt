@@ -8,6 +8,7 @@ use Rattle.acct_text.specs.declared.files.Files.{Files}
 use Rattle.acct_text.specs.Bytes.{Bytes}
 use Rattle.acct_text.specs.Files.{no_files, table_of, with_table}
 use Rattle.acct_text.specs.Limits.{table_limit}
+use Rattle.acct_text.specs.SeenTables.{seen_of, seen_through}
 use Rattle.acct_outside.specs.declared.Name.{Name}
 use Rattle.acct_outside.specs.declared.Name.TheVariants.{Table, Intent, Defs}
 use Rattle.acct_outside.specs.Names.{same_name}
@@ -22,7 +23,7 @@ use Rattle.lock_steps.specs.declared.gathered.IntentFound.TheVariants.{Absent, L
 -- what is kept of all that was found
 pub record Gathered : Type 0 where
   pub intent : IntentFound
-  -- a table that the intent lists has the intent's bytes
+  -- a table that the intent lists has the intent's bytes, and one that isn't wanted is empty
   pub files : Files
   pub defs : Option Bytes
   -- the names that were read, and at which too many bytes stand
@@ -71,24 +72,30 @@ abbrev pub listed_at : Found → List NewTable
 listed_at (found_bytes bytes) = listed_by (Some bytes)
 listed_at _ = []
 
--- the name is a table's that the intent lists, of which this was found
-abbrev pub is_listed_at : Found → Name → Bool
-is_listed_at found (Table table) = is_some (listed_in (listed_at found) table)
-is_listed_at found _ = false
+-- what is known of a table without its read, where these are wanted and this was found at the intent: the
+-- bytes that it lists, and that a table which isn't wanted counts as empty
+abbrev pub known_of : List Tab → Found → Tab → Option Bytes
+known_of wanted found table = seen_of wanted table (listed_in (listed_at found) table)
 
--- What is kept is what was found at these names: at the intent, and where that is absent or reads at
--- login.defs and at each table that it doesn't list, but for the names that are left to read.
-pub record HasFound (watched : Name → Option Found) (gathered : Gathered) (left : List Name)
-    : Type 0 where
+-- the name is a table's that is known so
+abbrev pub is_known : List Tab → Found → Name → Bool
+is_known wanted found (Table table) = is_some (known_of wanted found table)
+is_known wanted found _ = false
+
+-- What is kept is what was found at these names, of which these tables are wanted: at the intent, and where
+-- that is absent or reads at login.defs and at each wanted table that it doesn't list, but for the names
+-- that are left to read.
+pub record HasFound (wanted : List Tab) (watched : Name → Option Found) (gathered : Gathered)
+    (left : List Name) : Type 0 where
   pub found : Found
   pub at_intent : watched Intent ≡ Some found
   pub told : TellsIntent found gathered.intent
-  pub listed : (table : Tab) (new : Bytes) → listed_in (listed_at found) table ≡ Some new →
-      table_of gathered.files table ≡ Some new
-  pub taken : (table : Tab) (new : Bytes) → listed_in (listed_at found) table ≡ Some new →
+  pub known : (table : Tab) (bytes : Bytes) → known_of wanted found table ≡ Some bytes →
+      table_of gathered.files table ≡ Some bytes
+  pub taken : (table : Tab) (bytes : Bytes) → known_of wanted found table ≡ Some bytes →
       (is_large gathered (Table table) ≡ false) × (is_in (Table table) left ≡ false)
-  pub unlisted : is_readable gathered.intent ≡ true → (name : Name) → is_input name ≡ true →
-      is_listed_at found name ≡ false → is_in name left ≡ false →
+  pub unknown : is_readable gathered.intent ≡ true → (name : Name) → is_input name ≡ true →
+      is_known wanted found name ≡ false → is_in name left ≡ false →
       watched name ≡ Some (gathered_at gathered name)
 
 -- no table, and not login.defs, has more bytes than the limit
@@ -102,11 +109,11 @@ abbrev pub with_listed : List NewTable → Files → Files
 with_listed [] files = files
 with_listed (new ∷ news) files = with_table new.table (Some new.bytes) (with_listed news files)
 
--- before any other read, where this is told of the intent and it lists these tables
-abbrev pub first_gathered : IntentFound → List NewTable → Gathered
-first_gathered intent tables = record {
+-- before any other read, where this is told of the intent, it lists these tables, and those are wanted
+abbrev pub first_gathered : List Tab → IntentFound → List NewTable → Gathered
+first_gathered wanted intent tables = record {
   intent = intent;
-  files = with_listed tables no_files;
+  files = seen_through wanted (with_listed tables no_files);
   defs = None;
   large = [];
 }
@@ -121,7 +128,7 @@ abbrev pub lacks : Files → Name → Bool
 lacks files (Table table) = is_none (table_of files table)
 lacks files _ = true
 
--- it is to be read behind the intent: nothing is where that doesn't read, else each input that isn't listed
+-- it is to be read behind the intent: nothing is where that doesn't read, else each input that isn't known
 abbrev pub awaits : Gathered → Name → Bool
 awaits gathered name = is_readable gathered.intent && lacks gathered.files name
 

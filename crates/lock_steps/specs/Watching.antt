@@ -1,6 +1,7 @@
 -- The states of a session that takes no lock: what contracts see of each, what its step gives by the answer
 -- of its one call, and how it stands, by its own events alone (docs/ARCHITECTURE.md, "Reports").
 use Rattle.std.specs.Prelude.{◌≡◌, ◌≢◌, ⊤, ℕ, true, List, [], length, get_or, drop, slice_get, Some, Result, Ok, Err}
+use Rattle.acct_text.specs.declared.Tab.{Tab}
 use Rattle.acct_outside.specs.declared.Name.{Name}
 use Rattle.acct_outside.specs.declared.Name.TheVariants.{Defs}
 use Rattle.acct_outside.specs.declared.FolderFault.{FolderFault}
@@ -23,17 +24,19 @@ use Rattle.lock_steps.specs.Stands.{HasListed}
 use Rattle.lock_steps.specs.NextCall.{next_or}
 use Rattle.lock_steps.specs.Gathered.{Gathered, HasFound, TellsIntent, listed_at, first_gathered, names_behind, with_found}
 
--- one that has judged the greatest lock, of this number, and has read the intent since; what it has found
--- is gathered, and these names are left to read
+-- one that has judged the greatest lock, of this number, and has read the intent since; it wants these
+-- tables, what it has found is gathered, and these names are left to read
 pub record Gatherer : Type 0 where
   pub token : Token
   pub number : ℕ
+  pub wanted : List Tab
   pub gathered : Gathered
   pub left : List Name
 
--- what was found under the greatest lock of two listings, which has this number
+-- what was found of the wanted tables under the greatest lock of two listings, which has this number
 pub record Report : Type 0 where
   pub number : ℕ
+  pub wanted : List Tab
   pub gathered : Gathered
 
 -- how many reads are left
@@ -48,13 +51,14 @@ next_name reading = get_or reading.left 0 Defs
 abbrev pub gathering_call : Gatherer → Call
 gathering_call reading = next_or lists reads (slice_get reading.left 0)
 
--- once the intent is read, of which this is told, and which lists these tables
-abbrev pub begun_reading : Lister → IntentFound → List NewTable → Gatherer
-begun_reading watcher intent tables =
-    let gathered = first_gathered intent tables in
+-- one that wants these tables, once the intent is read, of which this is told, and which lists those
+abbrev pub begun_reading : Lister → List Tab → IntentFound → List NewTable → Gatherer
+begun_reading watcher wanted intent tables =
+    let gathered = first_gathered wanted intent tables in
     record {
       token = watcher.token;
       number = watcher.greatest;
+      wanted = wanted;
       gathered = gathered;
       left = names_behind gathered;
     }
@@ -68,16 +72,21 @@ read_on reading found = record reading {
 
 -- what it has gathered, under its number
 abbrev pub report_of : Gatherer → Report
-report_of reading = record { number = reading.number; gathered = reading.gathered }
+report_of reading = record {
+  number = reading.number;
+  wanted = reading.wanted;
+  gathered = reading.gathered;
+}
 
 -- a read of the intent leads on, whatever it finds; memory may run out for what it lists
-abbrev pub ReadsIntentFirst : Lister → Result Found FolderFault →
+abbrev pub ReadsIntentFirst : Lister → List Tab → Result Found FolderFault →
     Result Gatherer FolderFault → Type 0
-ReadsIntentFirst watcher (Ok found) (Ok reading) = TellsIntent found reading.gathered.intent
-    × (reading ≡ begun_reading watcher reading.gathered.intent (listed_at found))
-ReadsIntentFirst watcher (Ok found) (Err Memory) = ⊤
-ReadsIntentFirst watcher (Err fault) (Err came) = came ≡ fault
-ReadsIntentFirst _ _ _ = ⊥
+ReadsIntentFirst watcher wanted (Ok found) (Ok reading) =
+    TellsIntent found reading.gathered.intent
+    × (reading ≡ begun_reading watcher wanted reading.gathered.intent (listed_at found))
+ReadsIntentFirst watcher wanted (Ok found) (Err Memory) = ⊤
+ReadsIntentFirst watcher wanted (Err fault) (Err came) = came ≡ fault
+ReadsIntentFirst _ _ _ _ = ⊥
 
 -- a read of the next name leads on, whatever it finds; of one that is too large the name is noted, and
 -- memory may run out for that
@@ -101,7 +110,7 @@ ConfirmsFound _ _ _ = ⊥
 abbrev pub HasGathered : Gatherer → Standing → Type 0
 HasGathered reading = HasListed lock_uncalled reading.number
     (λ listing. (listing.is_judged ≡ true)
-    × HasFound listing.watched reading.gathered reading.left)
+    × HasFound reading.wanted listing.watched reading.gathered reading.left)
 
 -- it hasn't called create, and has shown all that the report has
 pub record HasReported (report : Report) (standing : Standing) : Type 0 where
@@ -109,7 +118,7 @@ pub record HasReported (report : Report) (standing : Standing) : Type 0 where
   pub shown : Shown
   pub shows : standing.shown ≡ Some shown
   pub number : shown.number ≡ report.number
-  pub is_found : HasFound shown.file report.gathered []
+  pub is_found : HasFound report.wanted shown.file report.gathered []
 
 -- The session makes this read, whose answer shows so in the result. It keeps what it was asked and how far
 -- its commit is.

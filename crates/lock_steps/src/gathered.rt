@@ -53,14 +53,22 @@ impl Model for Gathered {
 }
 
 impl Gathered {
-    /// Before any other read, where this stands at the intent and it lists these tables.
-    pub(crate) fn new(alloc: Global, intent: IntentFound, tables: Vec<NewTable>) -> Self
+    /// Before any other read, where this stands at the intent, it lists these tables, and those are
+    /// wanted.
+    pub(crate) fn new(
+        alloc: Global,
+        wanted: &[Tab],
+        intent: IntentFound,
+        tables: Vec<NewTable>,
+    ) -> Self
         requires { All (λ new. length new.bytes ≤ table_limit) tables.items }
-        ensures { result ≡ first_gathered intent tables.items }
+        ensures { result ≡ first_gathered wanted.now intent tables.items }
     {
+        let mut files = files_of(tables);
+        files.see_only(alloc, wanted);
         Gathered {
             intent,
-            files: files_of(tables),
+            files,
             defs: None,
             large: Vec::new(alloc),
         }

@@ -3,13 +3,13 @@
 // (docs/ARCHITECTURE.md, "Reports").
 //
 // 1. `Watcher`: nobody keeps the greatest lock. `read_intent` reads the intent, and leads to `Reading`.
-// 2. `Reading`: the intent is read. While `left` isn't 0, `read_next` reads the next table that the intent
-//    doesn't list, and login.defs as the last. Then `confirm` lists the locks again, and leads to `Shown`
+// 2. `Reading`: the intent is read. While `left` isn't 0, `read_next` reads the next of the wanted tables that
+//    the intent doesn't list, and login.defs as the last. Then `confirm` lists the locks again, and leads to `Shown`
 //    where the same one is the greatest.
 // 3. `Shown`: all was found at one moment. It makes no call.
 ghost use Rattle.std.specs.Prelude.{◌≡◌, ◌<◌, ◌≤◌, ◌≢◌, Ok, Some, IfOk, IfErr, IfSome, IsErrOf, All, length};
 ghost use Rattle.std.specs.Option.{option_copied};
-ghost use Rattle.acct_text.specs.declared.Tab.{Tab};
+ghost use Rattle.acct_text.specs.declared.Tab.{Tab as Table};
 ghost use Rattle.acct_text.specs.Bytes.{Bytes as Text};
 ghost use Rattle.acct_text.specs.Files.{table_of};
 ghost use Rattle.acct_text.specs.Limits.{table_limit};
@@ -27,7 +27,7 @@ use crate::gathered::{Gathered, IntentFound};
 use crate::listing::greatest_of;
 use crate::{LockEnd, LockRefusal};
 use acct_outside::{Call, Folder, FolderFault, Found, INTENT_LIMIT, Name, Token};
-use acct_text::{Bytes, Files, TABLE_LIMIT};
+use acct_text::{Bytes, Files, TABLE_LIMIT, Tab};
 use intent_file::{Intent, IntentFault, NewTable};
 use std::alloc::Global;
 use std::collections::VecDeque;
@@ -48,11 +48,12 @@ impl Model for Watcher {
     ghost view = { λ watcher. record { token = watcher.token; greatest = watcher.greatest } };
 }
 
-/// A session that has read the intent since, and reads what it doesn't list.
+/// A session that has read the intent since, and reads what it doesn't list of the wanted tables.
 #[derive(Drop)]
 pub struct Reading {
     token: Token,
     number: u64,
+    wanted: &'static [Tab],
     gathered: Gathered,
     left: VecDeque<Name>,
 }
@@ -66,6 +67,7 @@ impl Model for Reading {
     ghost view = { λ reading. record {
       token = reading.token;
       number = reading.number;
+      wanted = reading.wanted.now;
       gathered = reading.gathered;
       left = reading.left.items;
     } };
@@ -77,6 +79,7 @@ impl Model for Reading {
 #[derive(Drop)]
 pub struct Shown {
     number: u64,
+    wanted: &'static [Tab],
     gathered: Gathered,
 }
 
@@ -85,7 +88,11 @@ impl Model for Shown {
 
     ghost Value = { Report };
 
-    ghost view = { λ shown. record { number = shown.number; gathered = shown.gathered } };
+    ghost view = { λ shown. record {
+      number = shown.number;
+      wanted = shown.wanted.now;
+      gathered = shown.gathered;
+    } };
 }
 
 impl Watcher {
@@ -103,47 +110,54 @@ impl Watcher {
         Call::Read(Name::Intent)
     }
 
-    /// Reads the intent, whatever is found there.
+    /// Reads the intent, whatever is found there, for a report that wants these tables.
     ///
     /// Want of memory may also come after the read, for the listed tables.
     pub fn read_intent<F: Folder>(
         self,
         alloc: Global,
+        wanted: &'static [Tab],
         folder: &mut F,
     ) -> Result<Reading, FolderFault>
         requires { StandsIn (F.moment folder.old) self.token (HasJudged self) }
         ensures { Watches (F.moment folder.old) (F.moment folder.new) self.token
-            (reads Name.Intent) (ReadsIntentFirst self) HasGathered result }
+            (reads Name.Intent) (ReadsIntentFirst self wanted.now) HasGathered result }
     {
         let found = folder.read(&self.token, Name::Intent, INTENT_LIMIT);
-        self.after_intent(alloc, found)
+        self.after_intent(alloc, wanted, found)
     }
 
     // What the read of the intent leads to.
     fn after_intent(
         self,
         alloc: Global,
+        wanted: &'static [Tab],
         found: Result<Found, FolderFault>,
     ) -> Result<Reading, FolderFault>
-        ensures shown { ReadsIntentFirst self (found_result found) result }
+        ensures shown { ReadsIntentFirst self wanted.now (found_result found) result }
         ensures failed { IsErrOf result FolderFault.Failed → IsErrOf found FolderFault.Failed }
     {
         match found? {
-            Found::Absent => self.begin(alloc, IntentFound::Absent, Vec::new(alloc)),
-            Found::Held(text) => self.after_text(alloc, text.as_slice()),
-            Found::TooLarge => self.begin(alloc, IntentFound::TooLarge, Vec::new(alloc)),
+            Found::Absent => self.begin(alloc, wanted, IntentFound::Absent, Vec::new(alloc)),
+            Found::Held(text) => self.after_text(alloc, wanted, text.as_slice()),
+            Found::TooLarge => { self.begin(alloc, wanted, IntentFound::TooLarge, Vec::new(alloc)) }
         }
     }
 
     // What the bytes of an intent lead to.
-    fn after_text(self, alloc: Global, text: &[u8]) -> Result<Reading, FolderFault>
-        ensures shown { ReadsIntentFirst self (Ok (found_bytes text.now)) result }
+    fn after_text(
+        self,
+        alloc: Global,
+        wanted: &'static [Tab],
+        text: &[u8],
+    ) -> Result<Reading, FolderFault>
+        ensures shown { ReadsIntentFirst self wanted.now (Ok (found_bytes text.now)) result }
         ensures failed { ¬ (IsErrOf result FolderFault.Failed) }
     {
         match Intent::read(alloc, text) {
-            Ok(intent) => self.begin(alloc, IntentFound::Listed, intent.into_tables()),
+            Ok(intent) => self.begin(alloc, wanted, IntentFound::Listed, intent.into_tables()),
             Err(IntentFault::Part(part)) => {
-                self.begin(alloc, IntentFound::Damaged(part), Vec::new(alloc))
+                self.begin(alloc, wanted, IntentFound::Damaged(part), Vec::new(alloc))
             }
             Err(IntentFault::Memory) => Err(FolderFault::Memory),
         }
@@ -153,19 +167,21 @@ impl Watcher {
     fn begin(
         self,
         alloc: Global,
+        wanted: &'static [Tab],
         intent: IntentFound,
         tables: Vec<NewTable>,
     ) -> Result<Reading, FolderFault>
         requires { All (λ new. length new.bytes ≤ table_limit) tables.items }
         ensures begun { IfOk result (λ reading.
-            reading ≡ begun_reading self intent tables.items) }
+            reading ≡ begun_reading self wanted.now intent tables.items) }
         ensures failed { IfErr result (λ fault. fault ≡ FolderFault.Memory) }
     {
-        let gathered = Gathered::new(alloc, intent, tables);
+        let gathered = Gathered::new(alloc, wanted, intent, tables);
         let left = gathered.names_behind(alloc)?;
         Ok(Reading {
             token: self.token,
             number: self.greatest,
+            wanted,
             gathered,
             left,
         })
@@ -173,7 +189,8 @@ impl Watcher {
 }
 
 impl Reading {
-    /// How many reads are left: one for each table that the intent doesn't list, and one for login.defs;
+    /// How many reads are left: one for each wanted table that the intent doesn't list, and one for
+    /// login.defs;
     /// none where the intent is too large or doesn't read.
     pub fn left(&self) -> usize
         ensures { result ≡ gathering_left self.now }
@@ -214,16 +231,29 @@ impl Reading {
     }
 
     // What the read of the next name leads to.
-    fn after_read(mut self, found: Result<Found, FolderFault>) -> Result<Reading, FolderFault>
+    fn after_read(self, found: Result<Found, FolderFault>) -> Result<Reading, FolderFault>
         requires left { 0 < length self.left }
         requires limit { IfOk found (IsWithinLimit table_limit) }
         ensures shown { ReadsOn self (found_result found) result }
         ensures failed { IsErrOf result FolderFault.Failed → IsErrOf found FolderFault.Failed }
     {
         let found = found?;
-        self.gathered.put(self.left[0], found)?;
-        let _ = self.left.pop_front();
-        Ok(self)
+        let Reading {
+            token,
+            number,
+            wanted,
+            mut gathered,
+            mut left,
+        } = self;
+        gathered.put(left[0], found)?;
+        let _ = left.pop_front();
+        Ok(Reading {
+            token,
+            number,
+            wanted,
+            gathered,
+            left,
+        })
     }
 
     /// Lists the locks again, to see whether the greatest is the same as before the reads.
@@ -252,6 +282,7 @@ impl Reading {
         }
         Ok(Shown {
             number: self.number,
+            wanted: self.wanted,
             gathered: self.gathered,
         })
     }
@@ -266,10 +297,10 @@ impl Shown {
     }
 
     /// The six tables, none with more than 16,777,216 bytes: of one that the intent lists its bytes, and
-    /// none of one that is absent or too large.
+    /// none of one that is absent or too large. A table that isn't wanted is empty.
     pub fn files(&self) -> &Files
         ensures value { result.now ≡ self.now.gathered.files }
-        ensures small { (table : Tab) (bytes : Text) → table_of result.now table ≡ Some bytes
+        ensures small { (table : Table) (bytes : Text) → table_of result.now table ≡ Some bytes
             → length bytes ≤ table_limit }
     {
         &self.gathered.files

@@ -4,7 +4,7 @@
 -- (`ran-lawful`).
 -- Way: the session has a token, and was alone since the entry (`who-ran`). So its answer is the model's
 -- on the settled files of then, and these became the deed's where it changed them (`step-of`).
-use Rattle.std.proofs.Common.{◌≡◌, ◌⊎◌, refl, sym, ap, subst, ◌∙◌, ◌∷◌, ◌++◌, [], ℕ, Bool, true, false, List, inl, inr, Option, Some, None, Result, Ok, Err}
+use Rattle.std.proofs.Common.{◌≡◌, ◌⊎◌, refl, sym, ap, subst, ◌∙◌, ◌∷◌, ◌++◌, [], ℕ, Bool, true, false, List, inl, inr, Option, Some, None, Result, Ok, Err, true≢false}
 use Rattle.std.specs.Prelude.{unwrap_or, option_map, if◌then◌else◌}
 use Rattle.std.specs.List.{AllByRecursion}
 use Rattle.acct_text.specs.declared.Tab.{Tab}
@@ -29,10 +29,12 @@ use Rattle.account_model.specs.declared.tool.Tool.{Tool}
 use Rattle.account_model.specs.declared.word_fault.WordFault.{WordFault}
 use Rattle.account_model.specs.declared.word_fault.WordFault.TheVariants.{Memory as NoWordMemory}
 use Rattle.account_model.specs.Options.{Word}
-use Rattle.account_model.specs.Request.{Request}
+use Rattle.account_model.specs.Request.{Request, is_report}
 use Rattle.account_model.specs.Words.{Asks}
 use Rattle.account_model.specs.Answer.{AnswerCause, Unusable, Refused as ModelRefused, RefusedLine as ModelRefusedLine, Same as ModelSame, Changed as ModelChanged, deed, is_faulty_batch, new_files}
 use Rattle.account_model.proofs.AsksLaws.{asks_iff_read}
+use Rattle.account_model.proofs.SeenLemmas.{sees-all}
+use Rattle.suite_session.proofs.ReportStays.{report-stays}
 use Rattle.suite_rules.specs.Deeds.{SuiteDeeds}
 use Rattle.suite_rules.specs.Lawful.{Lawful}
 use Rattle.suite_rules.specs.Settled.{settled}
@@ -46,9 +48,9 @@ use Rattle.suite_answers.specs.declared.cause.Outcome.{Outcome}
 use Rattle.suite_answers.specs.declared.answer.Answer.{Answer}
 use Rattle.suite_answers.specs.Answers.{cause_of_words, told_words}
 use Rattle.suite_session.specs.Runner.{Question}
-use Rattle.suite_session.specs.Answers.{after_streams, answer_on, cause_of_answer, given_for, memory_answer, IsAnswerOn, IsTold}
+use Rattle.suite_session.specs.Answers.{after_streams, answer_on, cause_of_answer, given_for, memory_answer, IsAnswerOn, IsAnswerSeen, IsTold}
 use Rattle.suite_session.specs.Locking.{cause_of_fault}
-use Rattle.suite_session.specs.Deeds.{AreOfTools, files_of}
+use Rattle.suite_session.specs.Deeds.{AreOfTools, files_of, is_change}
 use Rattle.suite_session.specs.Grows.{Grows, none_new, others_new, own_new}
 use Rattle.suite_session.specs.Stands.{IsDecided}
 use Rattle.suite_course.specs.Streams.{Streams}
@@ -195,6 +197,14 @@ no-change-deed : (faulty : Bool) (made : Option Files) → made ≡ None →
 no-change-deed true made none = refl
 no-change-deed false made none = none
 
+-- what is no change makes none either
+unchanged-deed : (cause : AnswerCause) → is_change cause ≡ false → new_files cause ≡ None
+unchanged-deed (Unusable problem) stays = refl
+unchanged-deed (ModelRefused refusal) stays = refl
+unchanged-deed (ModelRefusedLine line refusal) stays = refl
+unchanged-deed ModelSame stays = refl
+unchanged-deed (ModelChanged files) stays = absurd (true≢false stays)
+
 -- ---- One step
 
 -- files are those of their contents
@@ -259,6 +269,22 @@ module _ (deeds : SuiteDeeds) (ours : AreOfTools deeds) (asked : Question)
     abbrev made : Option Files
     made = deed asked.request asked.command.input asked.command.day (files_of was) defs
 
+    -- an answer on what the command sees that tells no change makes none: a report has no deed, and any
+    -- other command sees all files
+    none-made : IsAnswerSeen asked (files_of was) defs given →
+        (given.outcome.cause ≡ Changed → ⊥) → made ≡ None
+    none-made is_answer stays = cases (is_report asked.request) refl
+      where
+        cases : (is_one : Bool) → is_report asked.request ≡ is_one → made ≡ None
+        cases true is = no-change-deed (is_faulty_batch asked.request asked.command.input) _
+            (unchanged-deed (answer_on asked (files_of was) defs).cause
+            (report-stays asked.command.words asked.request asked.command.input asked.command.day
+            (files_of was) defs asks is))
+        cases false is = no-change-deed (is_faulty_batch asked.request asked.command.input) _
+            (no-deed (answer_on asked (files_of was) defs).cause given.outcome.cause
+            (subst (λ (files : Files). IsAnswerOn asked files defs given)
+            (sees-all asked.request is (files_of was)) is_answer).has_cause stays)
+
     -- the settled contents are the deed's
     settled-by : ChangedOrStayed deeds asked first new token given given.outcome.cause →
         (table : Tab) →
@@ -273,14 +299,11 @@ module _ (deeds : SuiteDeeds) (ours : AreOfTools deeds) (asked : Question)
         ∙ (ap (λ (list : List Commitment). fold_deeds deeds defs was list table) stayed.0.none
         ∙ (after-made was None table
         ∙ ap (λ (one : Option Files). table_of (unwrap_or one (files_of was)) table)
-        (sym (no-change-deed (is_faulty_batch asked.request asked.command.input)
-        (new_files (answer_on asked (files_of was) defs).cause)
-        (no-deed (answer_on asked (files_of was) defs).cause given.outcome.cause
-        (stayed.0.alone old alone).is_answer.has_cause stayed.1)))))
+        (sym (none-made (stayed.0.alone old alone).is_answer stayed.1))))
 
     -- its answer is that on these
     answer-by : ChangedOrStayed deeds asked first new token given given.outcome.cause →
-        IsAnswerOn asked (files_of was) defs given
+        IsAnswerSeen asked (files_of was) defs given
     answer-by (inl changed) = (changed.alone old alone).is_answer
     answer-by (inr stayed) = (stayed.0.alone old alone).is_answer
 

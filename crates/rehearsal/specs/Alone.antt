@@ -7,7 +7,8 @@ use Rattle.acct_outside.specs.Folder.{settings_file}
 use Rattle.acct_outside.specs.History.{after}
 use Rattle.acct_outside.specs.Moment.{Past}
 use Rattle.account_model.specs.Request.{Request, is_report}
-use Rattle.account_model.specs.Answer.{answer, deed}
+use Rattle.account_model.specs.Answer.{Answer, answer, deed}
+use Rattle.account_model.specs.SeenFiles.{seen_files}
 use Rattle.suite_rules.specs.Deeds.{SuiteDeeds}
 use Rattle.suite_rules.specs.Lawful.{Lawful}
 use Rattle.suite_rules.specs.Settled.{settled}
@@ -36,14 +37,19 @@ pub record HasFiles (settles : Files) (past : Past) : Type 0 where
   pub settings : defs_at past ≡ None
   pub intent : (after past.first past.history).file Intent ≡ None
 
--- The outcome is that of the request's answer, with this input and on this day, on the settled files of
--- before, and these became what the answer makes of them. login.defs stays, and no intent stands; but a
+-- the request's answer on what it sees of the settled files
+abbrev pub answer_seen : Request → Bytes → ℕ → Past → Answer
+answer_seen request input day old =
+    answer request input day (seen_files request (files_at old)) (defs_at old)
+
+-- The outcome is that of the request's answer, with this input and on this day, on what it sees of the
+-- settled files of before, and these became what the answer makes of them. login.defs stays, and no intent stands; but a
 -- report leaves the folder as it was.
 pub record IsStep (request : Request) (input : Bytes) (day : ℕ) (old new : Past) (outcome : Outcome)
     : Type 0 where
   pub cause : outcome.cause
-      ≡ cause_of_answer (answer request input day (files_at old) (defs_at old)).cause
-  pub status : outcome.status ≡ (answer request input day (files_at old) (defs_at old)).status
+      ≡ cause_of_answer (answer_seen request input day old).cause
+  pub status : outcome.status ≡ (answer_seen request input day old).status
   pub files : files_at new
       ≡ unwrap_or (deed request input day (files_at old) (defs_at old)) (files_at old)
   pub settings : defs_at new ≡ defs_at old

@@ -30,7 +30,7 @@ use Rattle.suite_rules.proofs.Settles.{file-facts, lawful-settles}
 use Rattle.suite_rules.proofs.Whole.{invariant}
 use Rattle.suite_answers.specs.declared.answer.Answer.{Answer}
 use Rattle.suite_session.specs.Runner.{Question}
-use Rattle.suite_session.specs.Answers.{IsAnswerOn}
+use Rattle.suite_session.specs.Answers.{IsAnswerSeen}
 use Rattle.suite_session.specs.Deeds.{files_of}
 use Rattle.suite_session.specs.Due.{WasKeeper}
 use Rattle.suite_session.proofs.GrowsLemmas.{second-empty}
@@ -216,8 +216,8 @@ answers-alone deeds first history lawful asked token given number kept was at_pl
     let own = commitments_of token (committed history) in
     record {
       is_answer = subst (λ (one : Option Bytes).
-          IsAnswerOn asked (files_of (settled (after first old))) one given) settings
-          (subst (λ (one : Contents). IsAnswerOn asked (files_of one) (settings_file first) given)
+          IsAnswerSeen asked (files_of (settled (after first old))) one given) settings
+          (subst (λ (one : Contents). IsAnswerSeen asked (files_of one) (settings_file first) given)
           (ap (λ (one : List Commitment). folded deeds first one) list ∙ then_files) at_place);
       settles = λ table. lawful-settles.is_fold deeds first history lawful table
           ∙ (ap (λ (one : List Commitment). folded deeds first one table)

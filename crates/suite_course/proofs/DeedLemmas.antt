@@ -3,7 +3,6 @@
 use Rattle.std.proofs.Common.{◌≡◌, refl, subst, Option, Some, None, option_map, Result, Ok, Err}
 use Rattle.acct_text.specs.Bytes.{Bytes}
 use Rattle.acct_text.specs.declared.Tab.{Tab}
-use Rattle.acct_text.specs.declared.Tab.TheVariants.{Passwd, Shadow, Group, Gshadow, Subuid, Subgid}
 use Rattle.acct_text.specs.declared.files.Files.{Files}
 use Rattle.acct_text.specs.Contents.{Contents, IsChange}
 use Rattle.acct_text.specs.Files.{table_of}
@@ -14,17 +13,8 @@ use Rattle.account_model.specs.Answer.{deed}
 use Rattle.account_model.specs.Laws.{DeedsAreChanges}
 use Rattle.account_model.specs.Words.{request_of}
 use Rattle.suite_rules.specs.Deeds.{SuiteDeeds}
-use Rattle.suite_session.specs.Deeds.{files_of, tools_deed, tools_answer_same, AreOfTools}
-
--- the files of contents have these
-pub files-have : (contents : Contents) (table : Tab) →
-    table_of (files_of contents) table ≡ contents table
-files-have contents Passwd = refl
-files-have contents Shadow = refl
-files-have contents Group = refl
-files-have contents Gshadow = refl
-files-have contents Subuid = refl
-files-have contents Subgid = refl
+use Rattle.suite_session.specs.Deeds.{files_of, tools_deed, tools_answer_same, tools_shows_same, AreOfTools}
+use Rattle.suite_session.proofs.ReportProblems.{files-have}
 
 -- what stands is one thing
 some-inner : {T : Type 0} {one other : T} → Some one ≡ Some other → one ≡ other
@@ -62,8 +52,9 @@ tools-have-deeds changes = (
   record {
     deed = tools_deed;
     answers_same = tools_answer_same;
+    shows_same = tools_shows_same;
     makes_changes = λ command contents defs new makes.
         made-by changes command contents defs new (request_of command.words) makes;
   },
-  record { is_deed = refl; is_same = refl },
+  record { is_deed = refl; is_same = refl; is_shown = refl },
 )

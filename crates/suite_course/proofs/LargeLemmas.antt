@@ -51,8 +51,8 @@ use Rattle.suite_session.specs.Due.{AnswersLarge}
 use Rattle.suite_session.proofs.ProblemLemmas.{IsLarge, content_next, large-answers, large-first, large-within}
 use Rattle.suite_course.specs.Shows.{HasStayed, IsAnswerAt}
 use Rattle.suite_course.proofs.AloneLemmas.{answers-alone}
-use Rattle.suite_course.proofs.ReportLemmas.{kept-number-of}
-use Rattle.suite_course.proofs.DeedLemmas.{files-have}
+use Rattle.suite_course.proofs.ReportLemmas.{keeper-sees, kept-number-of}
+use Rattle.suite_session.proofs.ReportProblems.{files-have}
 
 -- the limit of the next name is that of a table
 limit-next : (next : Option Tab) → name_limit (next_name next) ≡ table_limit
@@ -151,7 +151,9 @@ large-stayed deeds first history lawful asked runner answer name question uncall
     (sym parts) (kept-stays deeds first (met.newer ++ event ∷ []) met.older whole runner.token
     number kept_then) in
     let there : IsAnswerAt deeds asked first history number answer =
-    subst (λ (one : Answer). IsAnswerOn asked files (settings_file first) one)
+    subst (λ (one : Files). IsAnswerOn asked one (settings_file first) answer)
+    (sym (keeper-sees asked runner.token history number free kept files))
+    (subst (λ (one : Answer). IsAnswerOn asked files (settings_file first) one)
     (sym (large.says
     ∙ ap (λ (one : Name). given_for runner.asked.request.tool (TooLarge (File one))) large.is_next
     ∙ ap (λ (one : Question). given_for one.request.tool (TooLarge (File (next_name reader.next))))
@@ -164,7 +166,7 @@ large-stayed deeds first history lawful asked runner answer name question uncall
     reader.next)) (large-within (folder.file (next_name reader.next))
     (subst (λ (limit : ℕ). found_too_large
     ≡ found_within limit (folder.file (next_name reader.next))) (limit-next reader.next)
-    step.1.gives))))) in
+    step.1.gives)))))) in
     record {
       number = number;
       has_number = kept-number-of asked runner.token history number free kept;

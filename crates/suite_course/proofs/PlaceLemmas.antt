@@ -43,9 +43,9 @@ use Rattle.suite_session.specs.Deeds.{files_of}
 use Rattle.suite_session.specs.Due.{AnswersAll, AnswersSome, AnsweredAll, WasKeeper, ShowsAll, ShowsSome, ShowsLarge, ShowsOutrun, IsReported, IsShown}
 use Rattle.suite_session.specs.Reports.{RunsFree}
 use Rattle.suite_course.proofs.AloneLemmas.{answers-alone}
-use Rattle.suite_course.proofs.DeedLemmas.{files-have}
+use Rattle.suite_session.proofs.ReportProblems.{files-have}
 use Rattle.suite_course.proofs.LargeLemmas.{large-stayed, last-next}
-use Rattle.suite_course.proofs.ReportLemmas.{kept-number-of, never-removes, reported-stayed}
+use Rattle.suite_course.proofs.ReportLemmas.{keeper-sees, kept-number-of, never-removes, reported-stayed}
 use Rattle.suite_course.proofs.SuccessLemmas.{changed-succeeds}
 use Rattle.suite_course.specs.Shows.{HasChanged, HasStayed, IsAnswerAt, IsShownAt, ReachesStage, Shows, WasOutrun}
 
@@ -69,10 +69,10 @@ module _ (deeds : SuiteDeeds) (first : Folder) (history : History)
 
   module _ (number : ℕ) (seen : Seen) (looked : HasLooked history token number seen) where
     -- what was seen of all files is the place
-    pub seen-all : (files : Files) (defs : Option Bytes) (answer : Answer) →
+    seen-all : (files : Files) (defs : Option Bytes) (answer : Answer) →
         ((table : Tab) → seen.file (Table table) ≡ Some (table_of files table)) →
         seen.file Defs ≡ Some defs → IsAnswerOn asked files defs answer →
-        IsAnswerAt deeds asked first history number answer
+        IsAnswerOn asked (files_of (at_place number)) (settings_file first) answer
     seen-all files defs answer tables settings is =
         let same = files-same files (at_place number) (λ table. places-stay.has_seen deeds first
         history lawful token number seen looked table (table_of files table) (tables table)) in
@@ -81,6 +81,15 @@ module _ (deeds : SuiteDeeds) (first : Folder) (history : History)
         subst (λ (one : Files). IsAnswerOn asked one (settings_file first) answer) same
         (subst (λ (one : Option Bytes). IsAnswerOn asked files one answer) stands is)
 
+  -- of who kept a lock that is the answer at the place
+  place-answer : (free : is_report asked.request ≡ true → RunsFree token history) (kept : ℕ) →
+      kept_number (standing token history).own ≡ Some kept → (number : ℕ) (answer : Answer) →
+      IsAnswerOn asked (files_of (at_place number)) (settings_file first) answer →
+      IsAnswerAt deeds asked first history number answer
+  place-answer free kept is number answer =
+      subst (λ (one : Files). IsAnswerOn asked one (settings_file first) answer)
+      (sym (keeper-sees asked token history kept free is (files_of (at_place number))))
+
   module _ (free : is_report asked.request ≡ true → RunsFree token history)
       (uncalled : (standing token history).commit ≡ Before) (runner : Runner) (answer : Answer)
       (same : runner.token ≡ token) (question : runner.asked ≡ asked) where
@@ -88,11 +97,12 @@ module _ (deeds : SuiteDeeds) (first : Folder) (history : History)
     all-stayed : AnswersAll runner answer (standing token history) → WasKeeper token history →
         HasStayed deeds asked first history token answer
     all-stayed all was =
-        let there = seen-all all.number all.seen
+        let there = place-answer free all.number all.kept all.number answer
+        (seen-all all.number all.seen
         (record { kept = all.kept; uncommitted = uncalled; clean = all.clean })
         all.files all.defs answer all.all.each_table all.all.settings
         (subst (λ (one : Question). IsAnswerOn one all.files all.defs answer) question
-        all.is_answer) in
+        all.is_answer)) in
         record {
           number = all.number;
           has_number = kept-number-of asked token history all.number free all.kept;
@@ -109,7 +119,8 @@ module _ (deeds : SuiteDeeds) (first : Folder) (history : History)
         let looked : HasLooked history token some.number some.seen =
         record { kept = some.kept; uncommitted = uncalled; clean = some.clean } in
         let there : IsAnswerAt deeds asked first history some.number answer =
-        subst (λ (one : Question).
+        place-answer free some.number some.kept some.number answer
+        (subst (λ (one : Question).
         IsAnswerOn one (files_of (at_place some.number)) (settings_file first) answer) question
         (some.is_answer (files_of (at_place some.number)) (settings_file first) (record {
           each_table = λ table content is. places-stay.has_seen deeds first history lawful token
@@ -117,7 +128,7 @@ module _ (deeds : SuiteDeeds) (first : Folder) (history : History)
               ∙ sym (files-have (at_place some.number) table);
           settings = places-stay.settings deeds first history lawful token some.number some.seen
               looked;
-        })) in
+        }))) in
         record {
           number = some.number;
           has_number = kept-number-of asked token history some.number free some.kept;
@@ -133,8 +144,10 @@ changed-at : (deeds : SuiteDeeds) (first : Folder) (history : History) →
     (answer : Answer) → runner.token ≡ token → runner.asked ≡ asked →
     (standing token history).command ≡ Some asked.command →
     (standing token history).commit ≡ Committed → answer.outcome.cause ≡ Changed →
+    (is_report asked.request ≡ true → RunsFree token history) →
     AnsweredAll runner answer history → HasChanged deeds asked first history token answer
-changed-at deeds first history lawful asked token runner answer same question began is changed all =
+changed-at deeds first history lawful asked token runner answer same question began is changed free
+    all =
     let whole = subst (Lawful deeds first) all.parts lawful in
     let before = lawful-prefix deeds first all.newer all.older whole in
     let owner = subst (λ (one : Token). IsCleanKeeper all.older one all.number all.seen) same
@@ -146,7 +159,8 @@ changed-at deeds first history lawful asked token runner answer same question be
     let top_is = (invariant deeds first all.older before).keeper_view token
     all.number owner.active in
     let there : IsAnswerAt deeds asked first history all.number answer =
-    subst (λ (one : List Commitment). IsAnswerOn asked
+    place-answer deeds first history lawful asked token free all.number kept_now all.number answer
+    (subst (λ (one : List Commitment). IsAnswerOn asked
     (files_of (folded deeds first one)) (settings_file first) answer)
     (sym (ap (λ (one : History). place all.number (committed one)) all.parts
     ∙ places-stay.stays deeds first all.newer all.older whole all.number
@@ -155,7 +169,7 @@ changed-at deeds first history lawful asked token runner answer same question be
     (record { kept = kept_then; uncommitted = owner.uncommitted; clean = owner.clean })
     all.files all.defs answer all.all.each_table all.all.settings
     (subst (λ (one : Question). IsAnswerOn one all.files all.defs answer) question
-    all.is_answer)) in
+    all.is_answer))) in
     record {
       number = all.number;
       once = committed-once.one deeds first history lawful token is
@@ -261,7 +275,7 @@ module _ (deeds : SuiteDeeds) (first : Folder) (history : History)
       IsShownAt deeds asked first history runner.token answer cause
   shown-at Changed told is shown =
       changed-at deeds first history lawful asked runner.token runner answer refl question began is
-      told shown
+      told free shown
   shown-at Same told is shown = all-at is shown
   shown-at (Refused refusal) told is shown = all-at is shown
   shown-at (RefusedLine line refusal) told is shown = all-at is shown

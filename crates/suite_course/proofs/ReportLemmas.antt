@@ -9,6 +9,7 @@ use Rattle.std.specs.Option.{option_and_then}
 use Rattle.std.proofs.lemmas.List.Elements.{filter-append, recursion_from_All}
 use Rattle.std.proofs.lemmas.Slice.Eq.{bytes_eq-Decides}
 use Rattle.acct_text.specs.Bytes.{Bytes}
+use Rattle.acct_text.specs.declared.files.Files.{Files}
 use Rattle.acct_text.specs.Contents.{Contents}
 use Rattle.acct_outside.specs.declared.Name.{Name}
 use Rattle.acct_outside.specs.declared.Name.TheVariants.{Lock, Table}
@@ -21,6 +22,8 @@ use Rattle.acct_outside.specs.Folder.{Folder, greatest, settings_file, top}
 use Rattle.acct_outside.specs.Calls.{Call, Answer as CallAnswer, CallResult, Found, lists, reads, asks, creates, removes, done, found_absent, found_bytes, found_too_large, found_within}
 use Rattle.acct_outside.specs.History.{Event, History, after, is_of, own_events}
 use Rattle.account_model.specs.Request.{is_report}
+use Rattle.account_model.specs.SeenFiles.{seen_files}
+use Rattle.account_model.proofs.SeenLemmas.{sees-all}
 use Rattle.suite_rules.specs.Deeds.{SuiteDeeds}
 use Rattle.suite_rules.specs.OwnLock.{OwnLock, lock_uncalled, kept_number}
 use Rattle.suite_rules.specs.Knowledge.{is_watched}
@@ -37,7 +40,7 @@ use Rattle.suite_rules.proofs.Settles.{file-facts, lawful-settles}
 use Rattle.suite_rules.proofs.Whole.{invariant}
 use Rattle.suite_answers.specs.declared.answer.Answer.{Answer}
 use Rattle.suite_session.specs.Runner.{Question, Runner}
-use Rattle.suite_session.specs.Answers.{IsAnswerOn}
+use Rattle.suite_session.specs.Answers.{IsAnswerSeen}
 use Rattle.suite_session.specs.Causes.{Met}
 use Rattle.suite_session.specs.Deeds.{files_of}
 use Rattle.suite_session.specs.Reports.{AnswersShown, ChangesNothing, IsFreeCall, RunsFree}
@@ -47,7 +50,6 @@ use Rattle.suite_course.specs.Shows.{HasNumber, HasStayed, IsAnswerAt}
 use Rattle.suite_course.proofs.AloneLemmas.{all-rest}
 use Rattle.suite_course.proofs.AloneSteps.{IsListingOf, LocksAlone, there}
 use Rattle.suite_course.proofs.AloneStays.{alone-locks}
-use Rattle.suite_course.proofs.DeedLemmas.{files-have}
 
 -- ---- No lock
 
@@ -92,6 +94,18 @@ kept-number-of asked token history number free kept = record {
   report = λ is. absurd (keeps-none token history number (free is) kept);
   keeper = λ is. kept;
 }
+
+-- who kept a lock is no report, and sees all files as they stand
+pub keeper-sees : (asked : Question) (token : Token) (history : History) (number : ℕ) →
+    (is_report asked.request ≡ true → RunsFree token history) →
+    kept_number (standing token history).own ≡ Some number → (files : Files) →
+    seen_files asked.request files ≡ files
+keeper-sees asked token history number free kept files = cases (is_report asked.request) refl
+  where
+    cases : (is_one : Bool) → is_report asked.request ≡ is_one →
+        seen_files asked.request files ≡ files
+    cases true is = absurd (keeps-none token history number (free is) kept)
+    cases false is = sees-all asked.request is files
 
 -- ---- What was listed twice
 
@@ -245,8 +259,8 @@ module _ (deeds : SuiteDeeds) (first : Folder) (history : History)
       let none = committed-once.none deeds first history lawful token before in
       record {
         is_answer = subst (λ (one : Option Bytes).
-            IsAnswerOn asked (files_of (settled (after first old))) one given) settings
-            (subst (λ (one : Contents). IsAnswerOn asked (files_of one) (settings_file first) given)
+            IsAnswerSeen asked (files_of (settled (after first old))) one given) settings
+            (subst (λ (one : Contents). IsAnswerSeen asked (files_of one) (settings_file first) given)
             files there);
         settles = λ table. ap (λ (one : Folder). settled one table) same
             ∙ ap (λ (own : List Commitment). fold_deeds deeds (settings_file (after first old))
@@ -262,13 +276,12 @@ module _ (deeds : SuiteDeeds) (first : Folder) (history : History)
       let number = all.shown.number + 1 in
       let files = folded deeds first (place number (committed history)) in
       let there : IsAnswerAt deeds asked first history number given =
-      subst (λ (one : Question). IsAnswerOn one (files_of files) (settings_file first) given)
-      question (all.is_answer (files_of files) (settings_file first) (record {
-        listed = λ table new is. files-have files table ∙ reports-hold.listed deeds first history
-            lawful token all.shown all.shows all.intent all.shows_intent table new is;
-        unlisted = λ table found is found_is. reports-hold.unlisted deeds first history lawful token
-            all.shown all.shows all.intent all.shows_intent table found is found_is
-            ∙ ap (found_within (name_limit (Table table))) (sym (files-have files table));
+      subst (λ (one : Question). IsAnswerSeen one (files_of files) (settings_file first) given)
+      question (all.is_answer files (settings_file first) (record {
+        listed = reports-hold.listed deeds first history lawful token all.shown all.shows all.intent
+            all.shows_intent;
+        unlisted = reports-hold.unlisted deeds first history lawful token all.shown all.shows
+            all.intent all.shows_intent;
         settings = reports-hold.settings deeds first history lawful token all.shown all.shows;
       })) in
       let is_one : is_report asked.request ≡ true =

@@ -18,7 +18,7 @@ use Rattle.suite_answers.specs.declared.cause.Cause.{Cause}
 use Rattle.suite_answers.specs.declared.cause.Cause.TheVariants.{Changed, Memory}
 use Rattle.suite_answers.specs.declared.answer.Answer.{Answer}
 use Rattle.suite_session.specs.Runner.{Question}
-use Rattle.suite_session.specs.Answers.{IsAnswerOn}
+use Rattle.suite_session.specs.Answers.{IsAnswerSeen}
 use Rattle.suite_session.specs.Deeds.{files_of}
 use Rattle.suite_session.specs.Stands.{IsDecided, IsStopped}
 
@@ -29,13 +29,14 @@ pub record IsAlone (token : Token) (old new : History) : Type 0 where
   pub own : AllByRecursion (λ event. event.token ≡ token) newer
   pub fresh : own_events token old ≡ []
 
--- The answer is that on the settled files as they stood at the earlier moment. They are now what the
+-- The answer is that on the settled files as they stood at the earlier moment, as the command sees them. They
+-- are now what the
 -- session's own commitments made of them: one deed, or none.
 pub record IsAnswerOnOld (deeds : SuiteDeeds) (asked : Question) (first : Folder)
     (old new : History)
     (token : Token) (given : Answer) : Type 0 where
   pub is_answer :
-      IsAnswerOn asked (files_of (settled (after first old)))
+      IsAnswerSeen asked (files_of (settled (after first old)))
       (settings_file (after first old)) given
   pub settles : (table : Tab) → settled (after first new) table
       ≡ fold_deeds deeds (settings_file (after first old)) (settled (after first old))

@@ -22,7 +22,7 @@ use Rattle.suite_answers.specs.declared.answer.Answer.{Answer}
 use Rattle.suite_answers.specs.Reasons.{stage_of}
 use Rattle.suite_session.specs.Runner.{Question}
 use Rattle.suite_session.specs.Reports.{RunsFree}
-use Rattle.suite_session.specs.Answers.{IsAnswerOn}
+use Rattle.suite_session.specs.Answers.{IsAnswerSeen}
 use Rattle.suite_session.specs.Causes.{HasMet, MetChange, MetGreater}
 use Rattle.suite_session.specs.Deeds.{files_of}
 use Rattle.suite_session.specs.Stands.{IsMemory}
@@ -33,9 +33,10 @@ abbrev pub IsAlwaysSettled : SuiteDeeds → Folder → History → Type 0
 IsAlwaysSettled deeds first new = (newer older : History) → new ≡ newer ++ older → (table : Tab) →
     settled (after first older) table ≡ folded deeds first (committed older) table
 
--- the answer is that on the fold of the place of a number, under the first login.defs
+-- the answer is that on the fold of the place of a number, under the first login.defs, as the command sees
+-- them
 abbrev pub IsAnswerAt : SuiteDeeds → Question → Folder → History → ℕ → Answer → Type 0
-IsAnswerAt deeds asked first history number given = IsAnswerOn asked
+IsAnswerAt deeds asked first history number given = IsAnswerSeen asked
     (files_of (folded deeds first (place number (committed history)))) (settings_file first) given
 
 -- the session took no lock, and the number is one above the greatest lock that it listed twice in a row,

@@ -24,7 +24,6 @@ use Rattle.suite_rules.specs.Knowledge.{whole_content}
 use Rattle.suite_rules.specs.Listing.{Listing}
 use Rattle.suite_rules.specs.Shown.{Shown, whole_at, ShowsIntent, confirmed, shown_step}
 use Rattle.suite_rules.specs.Standing.{Standing, standing}
-use Rattle.suite_rules.specs.Rules.{HasShown}
 use Rattle.suite_rules.specs.Lawful.{IsNext, Lawful, goes_on}
 use Rattle.suite_rules.specs.Settled.{settled, listed_by}
 use Rattle.suite_rules.specs.Committed.{Commitment, committed, place, folded}
@@ -328,24 +327,6 @@ module _ (deeds : SuiteDeeds) (first : Folder) (history : History)
         ≡ folded deeds first (place (shown.number + 1) (committed history)) table
     unlisted-holds is = sym (settles None is) ∙ is-place table
 
-  -- all seven files
-  whole-holds : (asked : Option Command) (all : HasShown asked shown) →
-      (all.files ≡ folded deeds first (place (shown.number + 1) (committed history)))
-      × (all.defs ≡ settings_file first)
-  whole-holds asked all = (
-    λ i table. each-table table (listed_in (listed_by all.intent) table) refl i,
-    sym (stood-whole Defs all.defs all.settings) ∙ facts.settings,
-  )
-    where
-      each-table : (table : Tab) (listed : Option Bytes) →
-          listed_in (listed_by all.intent) table ≡ listed →
-          all.files table ≡ folded deeds first (place (shown.number + 1) (committed history)) table
-      each-table table (Some new) is =
-          all.listed table new is ∙ sym (listed-holds all.intent all.shows_intent table new is)
-      each-table table None is =
-          sym (stood-whole (Table table) (all.files table) (all.unlisted table is))
-          ∙ unlisted-holds all.intent all.shows_intent table is
-
 -- the law
 pub reports-hold : ReportsHold
 reports-hold = record {
@@ -362,8 +343,4 @@ reports-hold = record {
       let past = shown-then deeds first history lawful token shown is in
       past.was.stood Defs found has ∙ ap (found_within (name_limit Defs))
       (facts deeds first history lawful shown past).settings;
-  whole = λ deeds first history lawful token shown is.
-      whole-holds deeds first history lawful shown
-      (shown-then deeds first history lawful token shown is)
-      (standing token history).command;
 }

@@ -148,6 +148,7 @@ abbrev pub staff_deeds : SuiteDeeds
 staff_deeds = record {
   deed = staff_deed;
   answers_same = λ command files defs. false;
+  shows_same = λ command files defs. false;
   makes_changes = λ command files defs new is. staff-change files new
       (are-first files new (files Passwd) (files Shadow) (files Group) (files Gshadow)
       (files Subuid) (files Subgid) refl refl refl refl refl refl is);

@@ -11,6 +11,8 @@ pub record SuiteDeeds : Type 0 where
   pub deed : Command → Contents → Option Bytes → Option Contents
   -- its answer there has status 0 and isn't Changed
   pub answers_same : Command → Contents → Option Bytes → Bool
+  -- so does its answer as a report, on what it reads of them
+  pub shows_same : Command → Contents → Option Bytes → Bool
   -- new files change a table, make none stand or go, and keep each limit
   pub makes_changes : (command : Command) (files : Contents) (defs : Option Bytes)
       (new : Contents) → deed command files defs ≡ Some new → IsChange files new

@@ -17,7 +17,7 @@ use Rattle.suite_rules.specs.OwnLock.{lock_kept, kept_number}
 use Rattle.suite_rules.specs.Knowledge.{Seen, knows_none}
 use Rattle.suite_rules.specs.Shown.{Shown, ShowsIntent}
 use Rattle.suite_rules.specs.Standing.{standing}
-use Rattle.suite_rules.specs.Rules.{HasSeen, HasShown}
+use Rattle.suite_rules.specs.Rules.{HasSeen}
 use Rattle.suite_rules.specs.Lawful.{IsNext, Lawful}
 use Rattle.suite_rules.specs.Settled.{settled, listed_by}
 use Rattle.suite_rules.specs.Committed.{commitment_of, Rises, committed, commitments_of, place, folded}
@@ -152,12 +152,6 @@ pub record ReportsHold : Type 0 where
       (standing token history).shown ≡ Some shown →
       (found : Found) → shown.file Defs ≡ Some found →
       found ≡ found_within (name_limit Defs) (settings_file first)
-  pub whole : (deeds : SuiteDeeds) (first : Folder) (history : History) →
-      Lawful deeds first history → (token : Token) (shown : Shown) →
-      (standing token history).shown ≡ Some shown →
-      (all : HasShown (standing token history).command shown) →
-      (all.files ≡ folded deeds first (place (shown.number + 1) (committed history)))
-      × (all.defs ≡ settings_file first)
 
 -- A session that hasn't called its commit has committed nothing; one whose commit was done has
 -- committed once, under its number, what it was asked.

@@ -18,7 +18,7 @@ use Rattle.intent_file.specs.Intent.{Intended, intent_of, intent_text, ReadsInte
 use Rattle.suite_rules.specs.Deeds.{SuiteDeeds}
 use Rattle.suite_rules.specs.OwnLock.{lock_uncalled, lock_kept, made_number}
 use Rattle.suite_rules.specs.Listing.{Listing}
-use Rattle.suite_rules.specs.Shown.{Shown, whole_at, ShowsIntent}
+use Rattle.suite_rules.specs.Shown.{AreShown, Shown, ShowsIntent}
 use Rattle.suite_rules.specs.Knowledge.{Seen, knows_none, knows_bytes}
 use Rattle.suite_rules.specs.Standing.{Standing}
 use Rattle.suite_rules.specs.Settled.{listed_by}
@@ -130,29 +130,18 @@ pub record AnswersSame (deeds : SuiteDeeds) (standing : Standing) : Type 0 where
   pub has_seen : HasSeen standing.command seen
   pub same : deeds.answers_same has_seen.command has_seen.files has_seen.defs ≡ true
 
--- The session was asked this, and has shown these six files and this login.defs: the intent, which is
--- absent or reads, each table that it doesn't list, and login.defs; a listed table is the intent's.
-pub record HasShown (asked : Option Command) (shown : Shown) : Type 0 where
-  pub command : Command
-  pub intent : Option Bytes
-  pub files : Contents
-  pub defs : Option Bytes
-  pub is_asked : asked ≡ Some command
-  pub shows_intent : ShowsIntent shown intent
-  pub listed : (table : Tab) (new : Bytes) → listed_in (listed_by intent) table ≡ Some new →
-      files table ≡ Some new
-  pub unlisted : (table : Tab) → listed_in (listed_by intent) table ≡ None →
-      whole_at shown (Table table) ≡ Some (files table)
-  pub settings : whole_at shown Defs ≡ Some defs
-
--- the session took no lock, has shown all seven files, and its answer on them has status 0 and isn't
--- Changed
+-- The session took no lock. What it has shown of the intent is absent or reads, and whichever files are as
+-- it has shown, its answer on what it reads of them has status 0 and isn't Changed.
 pub record AnswersShown (deeds : SuiteDeeds) (standing : Standing) : Type 0 where
   pub uncalled : standing.own ≡ lock_uncalled
   pub shown : Shown
   pub shows : standing.shown ≡ Some shown
-  pub has_shown : HasShown standing.command shown
-  pub same : deeds.answers_same has_shown.command has_shown.files has_shown.defs ≡ true
+  pub command : Command
+  pub is_asked : standing.command ≡ Some command
+  pub intent : Option Bytes
+  pub shows_intent : ShowsIntent shown intent
+  pub same : (files : Contents) (defs : Option Bytes) → AreShown shown intent files defs →
+      deeds.shows_same command files defs ≡ true
 
 -- Answer with status 0 only after the own commit was done, or where nothing was to change.
 pub data AnswerRule (deeds : SuiteDeeds) (standing : Standing) (status : ℕ) : Type 0 where

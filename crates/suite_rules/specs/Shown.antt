@@ -3,15 +3,19 @@
 -- moment (docs/ARCHITECTURE.md, "Reports").
 use Rattle.std.specs.Prelude.{◌≡◌, ℕ, ◌&&◌, ◌==◌, if◌then◌else◌, List, Option, Some, None}
 use Rattle.std.specs.Option.{option_and_then}
+use Rattle.acct_text.specs.declared.Tab.{Tab}
 use Rattle.acct_text.specs.Bytes.{Bytes}
+use Rattle.acct_text.specs.Contents.{Contents}
 use Rattle.acct_outside.specs.Folder.{greatest}
 use Rattle.acct_outside.specs.declared.Name.{Name}
-use Rattle.acct_outside.specs.declared.Name.TheVariants.{Intent}
-use Rattle.acct_outside.specs.Calls.{Call, Answer, CallResult, Found, lists, done}
-use Rattle.intent_file.specs.Intent.{Intended, ReadsIntent}
+use Rattle.acct_outside.specs.declared.Name.TheVariants.{Table, Defs, Intent}
+use Rattle.acct_outside.specs.Names.{name_limit}
+use Rattle.acct_outside.specs.Calls.{Call, Answer, CallResult, Found, found_within, lists, done}
+use Rattle.intent_file.specs.Intent.{Intended, ReadsIntent, listed_in}
 use Rattle.suite_rules.specs.OwnLock.{OwnLock, lock_uncalled}
 use Rattle.suite_rules.specs.Knowledge.{whole_content}
 use Rattle.suite_rules.specs.Listing.{Listing}
+use Rattle.suite_rules.specs.Settled.{listed_by}
 
 -- what was watched under the greatest lock of two listings in a row
 pub record Shown : Type 0 where
@@ -29,6 +33,18 @@ pub record ShowsIntent (shown : Shown) (intent : Option Bytes) : Type 0 where
   pub is_found : whole_at shown Intent ≡ Some intent
   pub reads : (bytes : Bytes) → intent ≡ Some bytes →
       (intended : Intended) × ReadsIntent bytes intended
+
+-- These files are as was shown: a listed table has the intent's bytes, and just what was found of another
+-- is there, and of login.defs. Of a name that wasn't read nothing is said.
+pub record AreShown (shown : Shown) (intent : Option Bytes) (files : Contents) (defs : Option Bytes)
+    : Type 0 where
+  pub listed : (table : Tab) (new : Bytes) → listed_in (listed_by intent) table ≡ Some new →
+      files table ≡ Some new
+  pub unlisted : (table : Tab) (found : Found) → listed_in (listed_by intent) table ≡ None →
+      shown.file (Table table) ≡ Some found →
+      found ≡ found_within (name_limit (Table table)) (files table)
+  pub settings : (found : Found) → shown.file Defs ≡ Some found →
+      found ≡ found_within (name_limit Defs) defs
 
 -- a listing confirms what was watched since the last one, where that has the same greatest lock, which
 -- was judged

@@ -267,7 +267,8 @@ module _ (before now : Moment) (runner : Runner) (others : OthersCame before now
     gives = gives-still answer stands.gives;
   }
   state-stays (Watching watcher) stands = (stands.0, at-stays _ _ stands.1, stands.2)
-  state-stays (Gathering reading) stands = (stands.0, at-stays _ _ stands.1, stands.2)
+  state-stays (Gathering reading) stands =
+      (stands.0, at-stays _ _ stands.1, stands.2, stands.3)
   state-stays (Answering answer) stands = record {
     may_answer = answer-stays stands.may_answer;
     gives = gives-still answer stands.gives;

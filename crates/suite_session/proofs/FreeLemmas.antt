@@ -82,7 +82,6 @@ reported-after runner answer status stood reported = record {
   intent = reported.intent;
   shows_intent = reported.shows_intent;
   is_answer = reported.is_answer;
-  whole = reported.whole;
 }
 
 -- ---- The states of a report

@@ -29,7 +29,7 @@ mod OwnCallLemmas
 pub mod ProblemLemmas
 mod RecoveringTurns
 mod ReportMeeting
-mod ReportProblems
+pub mod ReportProblems
 mod ReportReads
 mod ReportStays
 mod ReportingTurns

@@ -1,6 +1,6 @@
 -- Claims: where a report's first problem is one of a file that it has shown, that is the first problem of all
--- files that are as was shown (`problem-first`); and where it has none, those are the files that it has kept,
--- all of them whole (`shown-files`, `whole-shown`).
+-- files that are as was shown, seen through the tables that it wanted (`problem-first`); and where it has
+-- none, those are the files that it has kept (`shown-files`).
 -- Way: what was found at a table is kept or too large (`as-found`), so each table has the problem that the
 -- report finds (`table-by`); the first of a list of problems is that of the first table that has one
 -- (`first-of`).
@@ -13,9 +13,12 @@ use Rattle.acct_text.specs.declared.Tab.{Tab}
 use Rattle.acct_text.specs.declared.Tab.TheVariants.{Passwd, Shadow, Group, Gshadow, Subuid, Subgid}
 use Rattle.acct_text.specs.declared.files.Files.{Files}
 use Rattle.acct_text.specs.Bytes.{Bytes}
+use Rattle.acct_text.specs.Contents.{Contents}
 use Rattle.acct_text.specs.Files.{table_of}
 use Rattle.acct_text.specs.Limits.{table_limit}
+use Rattle.acct_text.specs.SeenTables.{is_among, seen_of, seen_through}
 use Rattle.acct_text.specs.Tables.{all_tables}
+use Rattle.acct_text.proofs.FilesLemmas.{seen-there}
 use Rattle.acct_outside.specs.declared.Name.{Name}
 use Rattle.acct_outside.specs.declared.Name.TheVariants.{Table, Defs}
 use Rattle.acct_outside.specs.Calls.{Command, Found, found_absent, found_bytes, found_too_large, found_within}
@@ -23,19 +26,24 @@ use Rattle.account_model.specs.Text.{first_some}
 use Rattle.account_model.specs.Answer.{FileProblem, SettingsTooLarge, TableAbsent, TableTooLarge, files_problem, must_stand, settings_problem, table_problem}
 use Rattle.intent_file.specs.Intent.{Intended, ReadsIntent, listed_in}
 use Rattle.suite_rules.specs.Knowledge.{whole_content}
-use Rattle.suite_rules.specs.Rules.{HasShown}
 use Rattle.suite_rules.specs.Settled.{listed_by}
-use Rattle.suite_rules.specs.Shown.{Shown, ShowsIntent, whole_at}
+use Rattle.suite_rules.specs.Shown.{AreShown, Shown, ShowsIntent}
 use Rattle.lock_steps.specs.declared.gathered.IntentFound.{IntentFound}
 use Rattle.lock_steps.specs.declared.gathered.IntentFound.TheVariants.{Absent, Listed, TooLarge, Damaged}
-use Rattle.lock_steps.specs.Gathered.{AreSmall, Gathered, HasFound, TellsIntent, found_as, gathered_at, is_large, is_readable, listed_at}
-use Rattle.suite_answers.specs.declared.answer.Answer.{Answer}
-use Rattle.suite_session.specs.Runner.{Question}
-use Rattle.suite_session.specs.Answers.{IsAnswerOn}
+use Rattle.lock_steps.specs.Gathered.{AreSmall, Gathered, HasFound, TellsIntent, found_as, gathered_at, is_large, is_readable, known_of, listed_at}
 use Rattle.suite_session.specs.Deeds.{files_of}
 use Rattle.suite_session.specs.Reporting.{bad_settings, bad_table, first_problem, is_bad}
-use Rattle.suite_session.specs.Reports.{AreShown}
 use Rattle.suite_session.proofs.ProblemLemmas.{IsLarge, large-settings, large-table}
+
+-- the files of contents have these
+pub files-have : (contents : Contents) (table : Tab) →
+    table_of (files_of contents) table ≡ contents table
+files-have contents Passwd = refl
+files-have contents Shadow = refl
+files-have contents Group = refl
+files-have contents Gshadow = refl
+files-have contents Subuid = refl
+files-have contents Subgid = refl
 
 -- ---- What was found
 
@@ -233,58 +241,97 @@ group-stands gathered usable =
 
 -- ---- Files as they were shown
 
-module _ (shown : Shown) (gathered : Gathered) (found : HasFound shown.file gathered [])
+module _ (wanted : List Tab) (shown : Shown) (gathered : Gathered)
+    (found : HasFound wanted shown.file gathered [])
     (readable : is_readable gathered.intent ≡ true) (small : AreSmall gathered.files gathered.defs)
   where
     -- the intent that was found, none where there is none
     abbrev intent : Option Bytes
     intent = content_of found.found
 
-    module _ (files : Files) (defs : Option Bytes) (agree : AreShown shown intent files defs) where
+    module _ (contents : Contents) (defs : Option Bytes)
+        (agree : AreShown shown intent contents defs) where
+      -- what the report sees of them
+      abbrev seen : Files
+      seen = seen_through wanted (files_of contents)
+
+      -- of each table what is seen of its content
+      seen-is : (table : Tab) → table_of seen table ≡ seen_of wanted table (contents table)
+      seen-is table = seen-there wanted (files_of contents) table
+          ∙ ap (seen_of wanted table) (files-have contents table)
+
+      -- a table that is known without its read is seen so
+      known-seen : (table : Tab) (bytes : Bytes) → known_of wanted found.found table ≡ Some bytes →
+          seen_of wanted table (contents table) ≡ Some bytes
+      known-seen table bytes = cases (is_among wanted table)
+        where
+          cases : (among : Bool) →
+              (if among then listed_in (listed_at found.found) table else Some []) ≡ Some bytes →
+              (if among then contents table else Some []) ≡ Some bytes
+          cases true is = agree.listed table bytes (same-listed found.found table ∙ is)
+          cases false is = is
+
+      -- one that isn't is wanted, and the intent doesn't list it
+      unknown-wanted : (table : Tab) → known_of wanted found.found table ≡ None →
+          (is_among wanted table ≡ true) × (listed_in (listed_at found.found) table ≡ None)
+      unknown-wanted table = cases (is_among wanted table)
+        where
+          cases : (among : Bool) →
+              (if among then listed_in (listed_at found.found) table else Some []) ≡ None →
+              (among ≡ true) × (listed_in (listed_at found.found) table ≡ None)
+          cases true is = (refl, is)
+          cases false is = absurd (cc is)
+
       -- each table is as it is kept
       table-kept : (table : Tab) → IsKept (is_large gathered (Table table))
-          (table_of gathered.files table) (table_of files table)
-      table-kept table = by-listed (listed_in (listed_at found.found) table) refl
+          (table_of gathered.files table) (table_of seen table)
+      table-kept table = subst
+          (IsKept (is_large gathered (Table table)) (table_of gathered.files table))
+          (sym (seen-is table))
+          (by-known (known_of wanted found.found table) refl)
         where
-          by-listed : (listed : Option Bytes) → listed_in (listed_at found.found) table ≡ listed →
+          by-known : (known : Option Bytes) → known_of wanted found.found table ≡ known →
               IsKept (is_large gathered (Table table)) (table_of gathered.files table)
-              (table_of files table)
-          by-listed (Some new) is = subst
+              (seen_of wanted table (contents table))
+          by-known (Some bytes) is = subst
               (λ (large : Bool). IsKept large (table_of gathered.files table)
-              (table_of files table))
-              (sym (found.taken table new is).0)
-              (agree.listed table new (same-listed found.found table ∙ is)
-              ∙ sym (found.listed table new is))
-          by-listed None is = as-found (is_large gathered (Table table))
-              (table_of gathered.files table) (table_of files table)
+              (seen_of wanted table (contents table)))
+              (sym (found.taken table bytes is).0)
+              (known-seen table bytes is ∙ sym (found.known table bytes is))
+          by-known None is = let one = unknown-wanted table is in
+              as-found (is_large gathered (Table table)) (table_of gathered.files table)
+              (seen_of wanted table (contents table))
               (agree.unlisted table (gathered_at gathered (Table table))
-              (same-listed found.found table ∙ is)
-              (found.unlisted readable (Table table) refl (ap is_some is) refl))
+              (same-listed found.found table ∙ one.1)
+              (found.unknown readable (Table table) refl (ap is_some is) refl)
+              ∙ ap (found_within table_limit)
+              (ap (λ (among : Bool). if among then contents table else Some [])
+              (sym one.0)))
 
       -- so is login.defs
       settings-kept : IsKept (is_large gathered Defs) gathered.defs defs
       settings-kept = as-found (is_large gathered Defs) gathered.defs defs
-          (agree.settings (gathered_at gathered Defs) (found.unlisted readable Defs refl refl refl))
+          (agree.settings (gathered_at gathered Defs) (found.unknown readable Defs refl refl refl))
 
       -- each table has the problem that the report finds
-      table-problem : (table : Tab) → table_problem table (table_of files table)
+      table-problem : (table : Tab) → table_problem table (table_of seen table)
           ≡ cond (is_bad gathered table) (Some (bad_table gathered table)) None
       table-problem table = table-by table (is_large gathered (Table table))
-          (table_of gathered.files table) (table_of files table) (table-kept table)
+          (table_of gathered.files table) (table_of seen table) (table-kept table)
           (small.tables table)
 
       -- so their first problem is that of the report, or of login.defs
-      files-first : files_problem files defs ≡ (elim (find (is_bad gathered) all_tables) [
+      files-first : files_problem seen defs ≡ (elim (find (is_bad gathered) all_tables) [
         | Some table ↦ Some (bad_table gathered table)
         | None ↦ first_some (settings_problem (unwrap_or defs []) ∷ [])
       ])
       files-first = first-of (is_bad gathered)
-          (λ table. table_problem table (table_of files table)) (bad_table gathered) table-problem
+          (λ table. table_problem table (table_of seen table)) (bad_table gathered) table-problem
           all_tables (settings_problem (unwrap_or defs []) ∷ [])
 
       -- the first claim
       pub problem-first : (problem : FileProblem) → first_problem gathered ≡ Some problem →
-          files_problem files defs ≡ Some problem
+          files_problem seen defs ≡ Some problem
       problem-first problem is = files-first ∙ by-table (find (is_bad gathered) all_tables) is
         where
           by-settings : (large : Bool) → IsKept large gathered.defs defs →
@@ -307,14 +354,14 @@ module _ (shown : Shown) (gathered : Gathered) (found : HasFound shown.file gath
 
       module _ (usable : IsUsable gathered) where
         -- a table that is not too large is as it is kept
-        table-same : (table : Tab) → table_of files table ≡ table_of gathered.files table
+        table-same : (table : Tab) → table_of seen table ≡ table_of gathered.files table
         table-same table = subst (λ (large : Bool). IsKept large (table_of gathered.files table)
-            (table_of files table))
+            (table_of seen table))
             (fine-small (is_large gathered (Table table)) _ (usable.tables table))
             (table-kept table)
 
         -- the second claim
-        pub shown-files : files ≡ gathered.files
+        pub shown-files : seen ≡ gathered.files
         shown-files = λ i. record {
           passwd = table-same Passwd i;
           shadow = table-same Shadow i;
@@ -335,38 +382,3 @@ module _ (shown : Shown) (gathered : Gathered) (found : HasFound shown.file gath
           ∙ readable-whole found.found gathered.intent found.told readable;
       reads = readable-reads found.found gathered.intent found.told readable;
     }
-
-    -- where no table has a problem, all seven were shown whole
-    module _ (usable : IsUsable gathered) (command : Command) (asked : Option Command)
-        (is_asked : asked ≡ Some command) where
-      -- what isn't too large was found whole
-      whole-found : (name : Name) (content : Option Bytes) → is_large gathered name ≡ false →
-          shown.file name ≡ Some (found_as (is_large gathered name) content) →
-          whole_at shown name ≡ Some content
-      whole-found name content fine is = ap (option_and_then whole_content) is
-          ∙ (ap (λ (large : Bool). whole_content (found_as large content)) fine
-          ∙ kept-whole content)
-
-      has-shown : HasShown asked shown
-      has-shown = record {
-        command = command;
-        intent = intent;
-        files = table_of gathered.files;
-        defs = gathered.defs;
-        is_asked = is_asked;
-        shows_intent = intent-shown;
-        listed = λ table new is. found.listed table new (sym (same-listed found.found table) ∙ is);
-        unlisted = λ table is. whole-found (Table table) (table_of gathered.files table)
-            (fine-small (is_large gathered (Table table)) _ (usable.tables table))
-            (found.unlisted readable (Table table) refl
-            (ap is_some (sym (same-listed found.found table) ∙ is)) refl);
-        settings = whole-found Defs gathered.defs usable.settings
-            (found.unlisted readable Defs refl refl refl);
-      }
-
-      -- with the answer on the files that it has kept
-      pub whole-shown : (question : Question) (answer : Answer) →
-          IsAnswerOn question gathered.files gathered.defs answer →
-          (all : HasShown asked shown) × IsAnswerOn question (files_of all.files) all.defs answer
-      unfolding has-shown
-      whole-shown question answer is_answer = (has-shown, is_answer)

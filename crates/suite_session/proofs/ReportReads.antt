@@ -4,6 +4,7 @@
 -- names that it reads behind the intent are tables and login.defs.
 use Rattle.std.proofs.Common.{◌≡◌, ◌⊎◌, refl, sym, ap, subst, ◌∙◌, ◌<◌, ◌≤◌, ◌∷◌, [], Bool, true, false, cond, filter, length, length-drop, List, inl, inr, Result, Ok, Err, true≢false, arith}
 use Rattle.std.specs.Prelude.{get_or, slice_get}
+use Rattle.acct_text.specs.declared.Tab.{Tab}
 use Rattle.acct_outside.specs.declared.CommitStage.TheVariants.{Before}
 use Rattle.acct_outside.specs.declared.FolderFault.{FolderFault}
 use Rattle.acct_outside.specs.declared.FolderFault.TheVariants.{Failed, Memory as NoMemory}
@@ -89,11 +90,11 @@ Came {A = A} answer fault =
     (answer ≡ Err fault) ⊎ ((given : A) × (answer ≡ Ok given) × (fault ≡ NoMemory))
 
 -- the fault in which the first read of the intent ends came from the call, or memory was wanting
-pub watch-came : (watcher : Lister) (answer : Result Found FolderFault) (fault : FolderFault) →
-    ReadsIntentFirst watcher answer (Err fault) → Came answer fault
-watch-came watcher (Ok found) NoMemory shown = inr (found, refl, refl)
-watch-came watcher (Ok found) Failed shown = absurd shown
-watch-came watcher (Err came) fault shown = inl (ap Err (sym shown))
+pub watch-came : (watcher : Lister) (wanted : List Tab) (answer : Result Found FolderFault)
+    (fault : FolderFault) → ReadsIntentFirst watcher wanted answer (Err fault) → Came answer fault
+watch-came watcher wanted (Ok found) NoMemory shown = inr (found, refl, refl)
+watch-came watcher wanted (Ok found) Failed shown = absurd shown
+watch-came watcher wanted (Err came) fault shown = inl (ap Err (sym shown))
 
 -- and so did that of each further read
 pub gather-came : (reading : Gatherer) (answer : Result Found FolderFault) (fault : FolderFault) →
@@ -103,12 +104,12 @@ gather-came reading (Err came) fault shown = inl (ap Err (sym shown))
 gather-came reading (Ok found) fault shown = absurd shown
 
 -- where it leads on it was done, so it shows nothing
-pub watch-on : (watcher : Lister) (answer : Result Found FolderFault) (reading : Gatherer) →
-    ReadsIntentFirst watcher answer (Ok reading) → (state : State) →
+pub watch-on : (watcher : Lister) (wanted : List Tab) (answer : Result Found FolderFault)
+    (reading : Gatherer) → ReadsIntentFirst watcher wanted answer (Ok reading) → (state : State) →
     MeetsBy (reads Intent) answer (HasJudged watcher) state
-watch-on watcher (Ok found) reading shown state =
+watch-on watcher wanted (Ok found) reading shown state =
     λ stood held met shows. absurd (watch-quiet watcher found stood held met shows)
-watch-on watcher (Err fault) reading shown state = absurd shown
+watch-on watcher wanted (Err fault) reading shown state = absurd shown
 
 -- nor does a further read that leads on
 pub gather-on : (reading : Gatherer) (answer : Result Found FolderFault) (more : Gatherer) →
@@ -118,17 +119,21 @@ gather-on reading (Ok found) more shown is state =
     λ stood held met shows. absurd (gather-quiet reading is found stood held met shows)
 gather-on reading (Err fault) more shown is state = absurd shown
 
--- it keeps the token
-pub watch-token : (watcher : Lister) (answer : Result Found FolderFault) (reading : Gatherer) →
-    ReadsIntentFirst watcher answer (Ok reading) → reading.token ≡ watcher.token
-watch-token watcher (Ok found) reading shown = ap (λ (one : Gatherer). one.token) shown.1
-watch-token watcher (Err fault) reading shown = absurd shown
+-- it keeps the token, and has the tables that are wanted
+pub watch-keeps : (watcher : Lister) (wanted : List Tab) (answer : Result Found FolderFault)
+    (reading : Gatherer) → ReadsIntentFirst watcher wanted answer (Ok reading) →
+    (reading.token ≡ watcher.token) × (reading.wanted ≡ wanted)
+watch-keeps watcher wanted (Ok found) reading shown =
+    (ap (λ (one : Gatherer). one.token) shown.1, ap (λ (one : Gatherer). one.wanted) shown.1)
+watch-keeps watcher wanted (Err fault) reading shown = absurd shown
 
--- and so does a gatherer that reads on
-pub gather-token : (reading : Gatherer) (answer : Result Found FolderFault) (more : Gatherer) →
-    ReadsOn reading answer (Ok more) → more.token ≡ reading.token
-gather-token reading (Ok found) more shown = ap (λ (one : Gatherer). one.token) shown
-gather-token reading (Err fault) more shown = absurd shown
+-- a gatherer that reads on keeps both
+pub gather-keeps : (reading : Gatherer) (answer : Result Found FolderFault) (more : Gatherer) →
+    ReadsOn reading answer (Ok more) →
+    (more.token ≡ reading.token) × (more.wanted ≡ reading.wanted)
+gather-keeps reading (Ok found) more shown =
+    (ap (λ (one : Gatherer). one.token) shown, ap (λ (one : Gatherer). one.wanted) shown)
+gather-keeps reading (Err fault) more shown = absurd shown
 
 module _ (before now : Moment) (runner : Runner) (Held : Standing → Type 0)
     (stands : At before runner Before Held) (token : Token) (same : token ≡ runner.token)
@@ -182,16 +187,16 @@ few-behind test (one ∷ all) = cases (test one) (few-behind test all)
     cases false few = omega (arith, few)
 
 -- behind the first read of the intent fewer calls are left
-pub watch-calls : (watcher : Lister) (answer : Result Found FolderFault) (reading : Gatherer) →
-    ReadsIntentFirst watcher answer (Ok reading) →
+pub watch-calls : (watcher : Lister) (wanted : List Tab) (answer : Result Found FolderFault)
+    (reading : Gatherer) → ReadsIntentFirst watcher wanted answer (Ok reading) →
     LeavesFewer (Watching watcher) (Gathering reading)
-watch-calls watcher (Ok found) reading shown =
-    let gathered : Gathered = first_gathered reading.gathered.intent (listed_at found) in
+watch-calls watcher wanted (Ok found) reading shown =
+    let gathered : Gathered = first_gathered wanted reading.gathered.intent (listed_at found) in
     let same : length reading.left ≡ length (filter (awaits gathered) inputs) =
     ap (λ (one : Gatherer). length one.left) shown.1 in
     let few : length (filter (awaits gathered) inputs) ≤ 7 = few-behind (awaits gathered) inputs in
     other-fewer (Watching watcher) (Gathering reading) refl (omega (arith, same, few)) (omega arith)
-watch-calls watcher (Err fault) reading shown = absurd shown
+watch-calls watcher wanted (Err fault) reading shown = absurd shown
 
 -- a read leaves one fewer
 pub gather-calls : (reading : Gatherer) (answer : Result Found FolderFault) (more : Gatherer) →

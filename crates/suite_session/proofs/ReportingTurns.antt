@@ -5,7 +5,9 @@
 -- (`problem-shown`, `stays-shown`), and a report has no lock to leave (`reported-gives`).
 use Rattle.std.proofs.Common.{◌≡◌, refl, sym, ap, subst, ◌∙◌, ◌==◌, ℕ, true, false, List, inl, inr, Option, Some, None, IfSome, Result, Ok, Err, true≢false, arith}
 use Rattle.acct_text.specs.Bytes.{Bytes}
+use Rattle.acct_text.specs.declared.Tab.{Tab}
 use Rattle.acct_text.specs.declared.files.Files.{Files}
+use Rattle.acct_text.specs.SeenTables.{seen_through}
 use Rattle.acct_outside.specs.declared.CommitStage.TheVariants.{Before}
 use Rattle.acct_outside.specs.declared.FolderFault.{FolderFault}
 use Rattle.acct_outside.specs.declared.Name.TheVariants.{Intent}
@@ -16,7 +18,8 @@ use Rattle.acct_outside.specs.History.{History}
 use Rattle.acct_outside.specs.Moment.{Moment}
 use Rattle.account_model.specs.declared.tool.Tool.{Tool}
 use Rattle.account_model.specs.Request.{is_report}
-use Rattle.account_model.specs.Answer.{AnswerCause, FileProblem, TableTooLarge, SettingsTooLarge, TableAbsent, BadSettingAt, Unusable, Refused, RefusedLine, Same, Changed}
+use Rattle.account_model.specs.SeenFiles.{read_tables, seen_files}
+use Rattle.account_model.specs.Answer.{AnswerCause, FileProblem, TableTooLarge, SettingsTooLarge, TableAbsent, BadSettingAt, Unusable, Refused, RefusedLine, Same, Changed, files_problem}
 use Rattle.suite_rules.specs.OwnLock.{kept_number}
 use Rattle.suite_rules.specs.Standing.{Standing}
 use Rattle.suite_rules.specs.Steps.{MakesCall, StandsIn}
@@ -33,10 +36,10 @@ use Rattle.suite_answers.specs.Reasons.{stage_of}
 use Rattle.suite_session.specs.declared.state.State.{State}
 use Rattle.suite_session.specs.declared.state.State.TheVariants.{Answering, Gathering}
 use Rattle.suite_session.specs.Runner.{Runner}
-use Rattle.suite_session.specs.Answers.{answer_on, cause_of_answer, cause_of_problem, given_for, IsAnswerOn, memory_answer, Says}
+use Rattle.suite_session.specs.Answers.{answer_on, cause_of_answer, cause_of_problem, given_for, IsAnswerOn, IsAnswerSeen, memory_answer, Says}
 use Rattle.suite_session.specs.Causes.{Met}
 use Rattle.suite_session.specs.Counts.{LeavesFewer}
-use Rattle.suite_session.specs.Deeds.{is_change}
+use Rattle.suite_session.specs.Deeds.{files_of, is_change}
 use Rattle.suite_session.specs.Due.{IsReported, IsShown}
 use Rattle.suite_session.specs.Moment.{At, Runs}
 use Rattle.suite_session.specs.Reporting.{AnswersFiles, AnswersIntent, ReportsTo, first_problem}
@@ -48,8 +51,7 @@ use Rattle.suite_session.proofs.CauseLemmas.{IsPlain, answers-fault, given-cause
 use Rattle.suite_session.proofs.LeavingLemmas.{KeepsNone, none-left, report-unkept}
 use Rattle.suite_session.proofs.MetLemmas.{told-as}
 use Rattle.suite_session.proofs.ReportMeeting.{damaged-shown, large-shown}
-use Rattle.suite_session.proofs.ReportProblems.{content_of, intent-shown, none-usable, problem-first, shown-files, shown-settings, whole-shown}
-use Rattle.suite_session.proofs.RuleLemmas.{file-some}
+use Rattle.suite_session.proofs.ReportProblems.{content_of, intent-shown, none-usable, problem-first, shown-files, shown-settings}
 use Rattle.suite_session.proofs.TurnLemmas.{HasMetNow, answers-turn, goes-on, got, memory-met, unkept-left}
 
 -- ---- The answer on what was shown
@@ -70,15 +72,7 @@ reported-shown runner answer history Same stays reported = inr reported
 reported-shown runner answer history (Changed files) stays reported =
     absurd (true≢false stays)
 
--- the answer to a problem of the files doesn't have status 0
-problem-some : (tool : Tool) (problem : FileProblem) →
-    ((given_for tool (cause_of_problem problem)).outcome.status == 0) ≡ false
-problem-some tool (TableTooLarge table) = file-some tool
-problem-some tool SettingsTooLarge = file-some tool
-problem-some tool (TableAbsent table) = file-some tool
-problem-some tool (BadSettingAt line) = file-some tool
-
--- it comes before the commit
+-- the answer to a problem of the files comes before the commit
 problem-stage : (problem : FileProblem) → stage_of (cause_of_problem problem) ≡ Before
 problem-stage (TableTooLarge table) = refl
 problem-stage SettingsTooLarge = refl
@@ -95,9 +89,10 @@ problem-says runner (TableAbsent table) answer is = is
 problem-says runner (BadSettingAt line) answer is = is
 
 module _ (runner : Runner) (report : Report) (is_one : is_report runner.asked.request ≡ true)
+    (reads : report.wanted ≡ read_tables runner.asked.request)
     (small : AreSmall report.gathered.files report.gathered.defs)
     (readable : is_readable report.gathered.intent ≡ true) (stood : Standing)
-    (reported : HasReported report stood) (asked : stood.command ≡ Some runner.asked.command) where
+    (reported : HasReported report stood) where
   -- the first problem of what was shown is the answer on all files that are as was shown
   problem-shown : (problem : FileProblem) → first_problem report.gathered ≡ Some problem →
       (answer : FinalAnswer) →
@@ -110,16 +105,14 @@ module _ (runner : Runner) (report : Report) (is_one : is_report runner.asked.re
     shows = reported.shows;
     intent = content_of reported.is_found.found;
     shows_intent =
-        intent-shown reported.shown report.gathered reported.is_found readable small;
-    is_answer = λ files defs agree.
-        subst (λ (one : FinalAnswer). IsAnswerOn runner.asked files defs one) (sym given)
-        (problem-told runner.asked files defs problem
-        (problem-first reported.shown report.gathered reported.is_found readable small files defs
-        agree problem is));
-    whole = λ zero. absurd (true≢false
-        (ap (λ (status : ℕ). status == 0) (sym zero)
-        ∙ (ap (λ (one : FinalAnswer). one.outcome.status == 0) given
-        ∙ problem-some runner.asked.request.tool problem)));
+        intent-shown report.wanted reported.shown report.gathered reported.is_found readable small;
+    is_answer = λ contents defs agree. let files = files_of contents in
+        subst (λ (one : FinalAnswer). IsAnswerSeen runner.asked files defs one) (sym given)
+        (problem-told runner.asked (seen_files runner.asked.request files) defs problem
+        (subst (λ (tables : List Tab).
+        files_problem (seen_through tables files) defs ≡ Some problem) reads
+        (problem-first report.wanted reported.shown report.gathered reported.is_found readable small
+        contents defs agree problem is)));
   }
 
   -- without one the answer on the files that it has kept is
@@ -133,16 +126,15 @@ module _ (runner : Runner) (report : Report) (is_one : is_report runner.asked.re
     shows = reported.shows;
     intent = content_of reported.is_found.found;
     shows_intent =
-        intent-shown reported.shown report.gathered reported.is_found readable small;
-    is_answer = λ files defs agree.
-        subst (λ (one : Option Bytes). IsAnswerOn runner.asked files one answer)
-        (sym (shown-settings reported.shown report.gathered reported.is_found readable small files
-        defs agree usable))
+        intent-shown report.wanted reported.shown report.gathered reported.is_found readable small;
+    is_answer = λ contents defs agree. let files = files_of contents in
+        subst (λ (one : Option Bytes). IsAnswerSeen runner.asked files one answer)
+        (sym (shown-settings report.wanted reported.shown report.gathered reported.is_found readable
+        small contents defs agree usable))
         (subst (λ (one : Files). IsAnswerOn runner.asked one report.gathered.defs answer)
-        (sym (shown-files reported.shown report.gathered reported.is_found readable small files
-        defs agree usable)) is_answer);
-    whole = λ zero. whole-shown reported.shown report.gathered reported.is_found readable small
-        usable runner.asked.command stood.command asked runner.asked answer is_answer;
+        (sym (shown-files report.wanted reported.shown report.gathered reported.is_found readable
+        small contents defs agree usable)
+        ∙ ap (λ (tables : List Tab). seen_through tables files) reads) is_answer);
   }
 
 -- ---- The turn
@@ -150,7 +142,7 @@ module _ (runner : Runner) (report : Report) (is_one : is_report runner.asked.re
 module _ (before now : Moment) (runner : Runner) (reading : Gatherer)
     (stands : At before runner Before (HasGathered reading))
     (same : reading.token ≡ runner.token) (is_one : is_report runner.asked.request ≡ true)
-    (report : Report) (small : AreSmall report.gathered.files report.gathered.defs)
+    (reads : reading.wanted ≡ read_tables runner.asked.request) (report : Report) (small : AreSmall report.gathered.files report.gathered.defs)
     (made : MakesCall before now reading.token lists
     (λ answer. ConfirmsFound reading answer (Ok report)))
     (next : StandsIn now reading.token (HasReported report)) where
@@ -163,8 +155,8 @@ module _ (before now : Moment) (runner : Runner) (reading : Gatherer)
   reported-gives : (answer : FinalAnswer) (cause : AnswerCause) →
       answer.outcome.cause ≡ cause_of_answer cause → is_change cause ≡ false →
       Says runner.asked answer (cause_of_answer cause) →
-      ((one : Standing) → HasReported report one → one.command ≡ Some runner.asked.command →
-      AnswersShown runner answer one) → MayGive now runner answer
+      ((one : Standing) → HasReported report one → AnswersShown runner answer one) →
+      MayGive now runner answer
   reported-gives answer cause is stays says shows = record {
     may_answer = subst (MayAnswer now) same made.may_answer;
     gives = record {
@@ -174,13 +166,22 @@ module _ (before now : Moment) (runner : Runner) (reading : Gatherer)
         commits = stand.holds.commits ∙ sym (ap stage_of is ∙ cause-stage cause stays);
         shown = subst (IsShown runner answer past.history) (sym is)
             (reported-shown runner answer past.history cause stays
-            (shows _ stand.holds.holds stand.holds.asked));
+            (shows _ stand.holds.holds));
       }) stood;
     };
     left = λ goes_on. none-left runner.token answer.outcome.cause now.admits now.told
         (stands-weaker now.admits runner.token (Runs runner Before (HasReported report)) KeepsNone
         (λ one runs. ap kept_number runs.holds.uncalled) now.told stood);
   }
+
+  -- it has shown the tables that it wanted
+  reads_shown : report.wanted ≡ read_tables runner.asked.request
+  reads_shown = wanted-kept made.answer made.shown ∙ reads
+    where
+      wanted-kept : (answer : Result (List ℕ) FolderFault) →
+          ConfirmsFound reading answer (Ok report) → report.wanted ≡ reading.wanted
+      wanted-kept (Ok numbers) shown = ap (λ (one : Report). one.wanted) shown.1
+      wanted-kept (Err fault) shown = absurd shown
 
   -- or say that there was no memory
   memory-stands : (state : State) → AnswersWith runner.asked.request.tool (Memory Before) state →
@@ -199,7 +200,7 @@ module _ (before now : Moment) (runner : Runner) (reading : Gatherer)
       (ap (λ (one : FinalAnswer). one.outcome.cause) given
       ∙ given-cause tool (cause_of_problem problem)) refl
       (problem-says runner problem answer given)
-      (λ one reported asked. problem-shown runner report is_one small readable one reported asked
+      (λ one reported. problem-shown runner report is_one reads_shown small readable one reported
       problem is answer given)
   files-stands readable (Some problem) is (Answering answer) (inr none) =
       memory-stands (Answering answer) (inr (none ∙ ap memory_answer (problem-stage problem)))
@@ -209,7 +210,7 @@ module _ (before now : Moment) (runner : Runner) (reading : Gatherer)
       is_answer.has_cause stays
       (subst (Says runner.asked answer) is_answer.has_cause
       (answer-says runner.asked report.gathered.files report.gathered.defs answer is_answer))
-      (λ one reported asked. stays-shown runner report is_one small readable one reported asked is
+      (λ one reported. stays-shown runner report is_one reads_shown small readable one reported is
       answer is_answer)
   files-stands readable None is (Answering answer) (inr none) =
       memory-stands (Answering answer) (inr none)

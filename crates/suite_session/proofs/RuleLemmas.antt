@@ -4,6 +4,7 @@
 -- change comes after the own commit; and what else has status 0 is an answer on files that the
 -- session saw.
 use Rattle.std.proofs.Common.{◌≡◌, refl, sym, ap, subst, ◌∙◌, ◌==◌, ◌&&◌, not, ℕ, Bool, true, false, inl, inr, Option, Some, Result, Ok, Err, rules}
+use Rattle.acct_text.specs.declared.files.Files.{Files}
 use Rattle.acct_text.specs.Bytes.{Bytes}
 use Rattle.acct_text.specs.Contents.{Contents}
 use Rattle.acct_text.specs.Files.{table_of}
@@ -14,6 +15,7 @@ use Rattle.acct_outside.specs.History.{History}
 use Rattle.account_model.specs.declared.tool.Tool.{Tool}
 use Rattle.account_model.specs.declared.tool.Tool.TheVariants.{Useradd, Usermod, Userdel, Groupadd, Groupmod, Groupdel, Gpasswd, Chage, Chpasswd, Pwck, Grpck, Getsubids, Batch}
 use Rattle.account_model.specs.Answer.{AnswerCause, Unusable, Refused as ModelRefused, RefusedLine as ModelRefusedLine, Same as ModelSame, Changed as ModelChanged}
+use Rattle.account_model.specs.SeenFiles.{seen_files}
 use Rattle.account_model.specs.Statuses.{file_status, lock_status, memory_status, output_fault_status, update_status}
 use Rattle.suite_rules.specs.Deeds.{SuiteDeeds}
 use Rattle.account_model.proofs.DeedLaws.{faultless-batch}
@@ -25,8 +27,8 @@ use Rattle.suite_answers.specs.declared.cause.Cause.TheVariants.{Changed, Same, 
 use Rattle.suite_answers.specs.declared.answer.Answer.{Answer}
 use Rattle.suite_answers.specs.Reasons.{stage_of}
 use Rattle.suite_session.specs.Runner.{IsRead, Runner}
-use Rattle.suite_session.specs.Answers.{after_streams, cause_of_answer, given_for, IsAnswerOn, Says}
-use Rattle.suite_session.specs.Deeds.{AreOfTools, files_of, is_change, tools_answer_same}
+use Rattle.suite_session.specs.Answers.{after_streams, answer_on, cause_of_answer, given_for, IsAnswerOn, Says}
+use Rattle.suite_session.specs.Deeds.{AreOfTools, files_of, is_change, is_unchanging, tools_answer_same, tools_shows_same}
 use Rattle.suite_session.specs.Due.{AnswersAll, ShowsAll, IsShown}
 use Rattle.suite_session.specs.Reports.{AnswersShown}
 
@@ -115,6 +117,14 @@ module _ (deeds : SuiteDeeds) (ours : AreOfTools deeds) (runner : Runner) (answe
   other-rule is = other-status answer.outcome.status is
 
   -- the answer on these files has status 0 and changes nothing
+  unchanging : (files : Files) (defs : Option Bytes) → IsAnswerOn runner.asked files defs answer →
+      (answer.outcome.status == 0) ≡ true → (cause : Cause) → answer.outcome.cause ≡ cause →
+      (cause ≡ Changed → ⊥) → is_unchanging (answer_on runner.asked files defs) ≡ true
+  unchanging files defs is_answer zero cause is quiet = both-hold _ _
+      (ap (λ status. status == 0) (sym is_answer.has_status) ∙ zero)
+      (not-change _ cause (sym is_answer.has_cause ∙ is) quiet)
+
+  -- so it is one that leaves these contents the same
   same-on : (contents : Contents) (defs : Option Bytes) →
       IsAnswerOn runner.asked (files_of contents) defs answer →
       (answer.outcome.status == 0) ≡ true → (cause : Cause) → answer.outcome.cause ≡ cause →
@@ -128,8 +138,7 @@ module _ (deeds : SuiteDeeds) (ours : AreOfTools deeds) (runner : Runner) (answe
             read.lines_ask,
         tools_answer_same,
       )
-      (both-hold _ _ (ap (λ status. status == 0) (sym is_answer.has_status) ∙ zero)
-      (not-change _ cause (sym is_answer.has_cause ∙ is) quiet))
+      (unchanging (files_of contents) defs is_answer zero cause is quiet)
 
   -- so it may come
   all-rule : (cause : Cause) → answer.outcome.cause ≡ cause → (cause ≡ Changed → ⊥) →
@@ -155,19 +164,25 @@ module _ (deeds : SuiteDeeds) (ours : AreOfTools deeds) (runner : Runner) (answe
       AnswersShown runner answer stood → (zero : Bool) → (answer.outcome.status == 0) ≡ zero →
       Permitted
   shown-rule cause is quiet reported false zero = other-rule zero
-  shown-rule cause is quiet reported true zero =
-      let whole = reported.whole (search (rules, zero)) in
-      answers_shown (record {
-        uncalled = reported.uncalled;
-        shown = reported.shown;
-        shows = reported.shows;
-        has_shown = whole.0;
-        same = subst
-            (λ (one : Command). deeds.answers_same one whole.0.files whole.0.defs ≡ true)
-            (let both : Some runner.asked.command ≡ Some whole.0.command =
-            sym asked ∙ whole.0.is_asked in cc both)
-            (same-on whole.0.files whole.0.defs whole.1 zero cause is quiet);
-      })
+  shown-rule cause is quiet reported true zero = answers_shown (record {
+    uncalled = reported.uncalled;
+    shown = reported.shown;
+    shows = reported.shows;
+    command = runner.asked.command;
+    is_asked = asked;
+    intent = reported.intent;
+    shows_intent = reported.shows_intent;
+    same = λ contents defs agree.
+        (λ i. ours.is_shown i runner.asked.command contents defs)
+        ∙ rw (
+          read.request,
+          faultless-batch runner.asked.request runner.asked.command.input
+              read.lines_ask,
+          tools_shows_same,
+        )
+        (unchanging (seen_files runner.asked.request (files_of contents)) defs
+        (reported.is_answer contents defs agree) zero cause is quiet);
+  })
 
   -- either of them
   either-rule : (cause : Cause) → answer.outcome.cause ≡ cause → (cause ≡ Changed → ⊥) →

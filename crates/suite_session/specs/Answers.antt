@@ -14,6 +14,7 @@ use Rattle.suite_answers.specs.Reasons.{stage_of}
 use Rattle.suite_answers.specs.Answers.{told, says}
 use Rattle.acct_outside.specs.declared.CommitStage.{CommitStage}
 use Rattle.account_model.specs.declared.tool.Tool.{Tool}
+use Rattle.account_model.specs.SeenFiles.{seen_files}
 use Rattle.account_model.specs.Statuses.{memory_status, output_fault_status}
 use Rattle.suite_session.specs.Runner.{Question}
 
@@ -44,6 +45,10 @@ pub record IsAnswerOn (asked : Question) (files : Files) (defs : Option Bytes) (
   pub has_status : given.outcome.status ≡ (answer_on asked files defs).status
   pub has_out : given.out ≡ (answer_on asked files defs).output
   pub has_err : given.err ≡ (answer_on asked files defs).error
+
+-- it is that on what the command sees of the files: all of them, or of a report what it reads
+abbrev pub IsAnswerSeen : Question → Files → Option Bytes → Answer → Type 0
+IsAnswerSeen asked files defs given = IsAnswerOn asked (seen_files asked.request files) defs given
 
 -- it is that on some files
 pub record IsOfSome (asked : Question) (given : Answer) : Type 0 where

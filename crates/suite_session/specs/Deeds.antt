@@ -9,6 +9,7 @@ use Rattle.acct_text.specs.Contents.{Contents}
 use Rattle.acct_text.specs.Files.{table_of}
 use Rattle.acct_outside.specs.Calls.{Command}
 use Rattle.account_model.specs.Answer.{AnswerCause, Changed, Answer, answer, deed, is_faulty_batch}
+use Rattle.account_model.specs.SeenFiles.{seen_files}
 use Rattle.account_model.specs.Words.{request_of}
 use Rattle.suite_rules.specs.Deeds.{SuiteDeeds}
 
@@ -48,7 +49,17 @@ tools_answer_same command contents defs = elim (request_of command.words) [
       && is_unchanging (answer request command.input command.day (files_of contents) defs)
 ]
 
+-- so does the command's answer on what it sees of them as a report
+abbrev pub tools_shows_same : Command → Contents → Option Bytes → Bool
+tools_shows_same command contents defs = elim (request_of command.words) [
+  | Err fault ↦ false
+  | Ok request ↦ not (is_faulty_batch request command.input)
+      && is_unchanging (answer request command.input command.day
+      (seen_files request (files_of contents)) defs)
+]
+
 -- these deeds are those of the tools
 pub record AreOfTools (deeds : SuiteDeeds) : Type 0 where
   pub is_deed : deeds.deed ≡ tools_deed
   pub is_same : deeds.answers_same ≡ tools_answer_same
+  pub is_shown : deeds.shows_same ≡ tools_shows_same

@@ -1,27 +1,20 @@
 -- What a report is and shows: a command that only tells what stands (`pwck -r`, `grpck -r`, getsubids and
 -- `chage -l`). It takes no lock and changes nothing, and its answer is that on what it has shown
 -- (docs/ARCHITECTURE.md, "Reports").
-use Rattle.std.specs.Prelude.{◌≡◌, ⊤, true, ℕ, ◌≤◌, length, Option, Some, None}
+use Rattle.std.specs.Prelude.{◌≡◌, ⊤, true, ℕ, ◌≤◌, length, Option, Some}
 use Rattle.std.specs.List.{AllByRecursion}
-use Rattle.acct_text.specs.declared.Tab.{Tab}
-use Rattle.acct_text.specs.declared.files.Files.{Files}
+use Rattle.acct_text.specs.Contents.{Contents}
 use Rattle.acct_text.specs.Bytes.{Bytes}
-use Rattle.acct_text.specs.Files.{table_of}
-use Rattle.acct_outside.specs.declared.Name.TheVariants.{Table, Defs}
-use Rattle.acct_outside.specs.Names.{name_limit}
 use Rattle.acct_outside.specs.Tokens.{Token}
-use Rattle.acct_outside.specs.Calls.{Call, Found, begins, lists, reads, asks, answers, found_within}
+use Rattle.acct_outside.specs.Calls.{Call, begins, lists, reads, asks, answers}
 use Rattle.acct_outside.specs.History.{History, own_events}
 use Rattle.account_model.specs.Request.{is_report}
-use Rattle.intent_file.specs.Intent.{listed_in}
 use Rattle.suite_rules.specs.OwnLock.{lock_uncalled}
-use Rattle.suite_rules.specs.Rules.{HasShown}
-use Rattle.suite_rules.specs.Settled.{listed_by}
-use Rattle.suite_rules.specs.Shown.{Shown, ShowsIntent}
+use Rattle.suite_rules.specs.Shown.{AreShown, Shown, ShowsIntent}
 use Rattle.suite_rules.specs.Standing.{Standing}
 use Rattle.suite_answers.specs.declared.answer.Answer.{Answer}
 use Rattle.suite_session.specs.Runner.{Runner}
-use Rattle.suite_session.specs.Answers.{IsAnswerOn}
+use Rattle.suite_session.specs.Answers.{IsAnswerSeen}
 use Rattle.suite_session.specs.Deeds.{files_of}
 
 -- ---- What a report calls
@@ -52,20 +45,8 @@ pub record RunsFree (token : Token) (history : History) : Type 0 where
 
 -- ---- What a report answers on
 
--- These files are as was shown: a listed table has the intent's bytes, and just that was found of any
--- other, and of login.defs.
-pub record AreShown (shown : Shown) (intent : Option Bytes) (files : Files) (defs : Option Bytes)
-    : Type 0 where
-  pub listed : (table : Tab) (new : Bytes) → listed_in (listed_by intent) table ≡ Some new →
-      table_of files table ≡ Some new
-  pub unlisted : (table : Tab) (found : Found) → listed_in (listed_by intent) table ≡ None →
-      shown.file (Table table) ≡ Some found →
-      found ≡ found_within (name_limit (Table table)) (table_of files table)
-  pub settings : (found : Found) → shown.file Defs ≡ Some found →
-      found ≡ found_within (name_limit Defs) defs
-
--- The command is a report and took no lock. What it has shown of the intent is absent or reads, and its
--- answer is that on all files that are as was shown. With status 0 it has shown all seven whole.
+-- The command is a report and took no lock. What it has shown of the intent is absent or reads, and on all
+-- files that are as was shown its answer is that on what it sees of them.
 pub record AnswersShown (runner : Runner) (answer : Answer) (standing : Standing) : Type 0 where
   pub report : is_report runner.asked.request ≡ true
   pub uncalled : standing.own ≡ lock_uncalled
@@ -73,7 +54,6 @@ pub record AnswersShown (runner : Runner) (answer : Answer) (standing : Standing
   pub shows : standing.shown ≡ Some shown
   pub intent : Option Bytes
   pub shows_intent : ShowsIntent shown intent
-  pub is_answer : (files : Files) (defs : Option Bytes) → AreShown shown intent files defs →
-      IsAnswerOn runner.asked files defs answer
-  pub whole : answer.outcome.status ≡ 0 → (all : HasShown standing.command shown)
-      × IsAnswerOn runner.asked (files_of all.files) all.defs answer
+  pub is_answer : (contents : Contents) (defs : Option Bytes) →
+      AreShown shown intent contents defs →
+      IsAnswerSeen runner.asked (files_of contents) defs answer

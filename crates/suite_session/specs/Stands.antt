@@ -18,6 +18,7 @@ use Rattle.recovery.specs.Stands.{Recovers, HasStagedNext}
 use Rattle.account_model.specs.declared.tool.Tool.{Tool}
 use Rattle.account_model.specs.Answer.{Changed as ChangedTo}
 use Rattle.account_model.specs.Request.{is_report}
+use Rattle.account_model.specs.SeenFiles.{read_tables}
 use Rattle.commit_steps.specs.States.{Change, Walker}
 use Rattle.commit_steps.specs.Walks.{token_of}
 use Rattle.commit_steps.specs.Stands.{HasRead, BacksUp, HasStagedIntent, Installs}
@@ -178,6 +179,7 @@ StandsAs now runner (Watching watcher) =
 StandsAs now runner (Gathering reading) =
     (reading.token ≡ runner.token) × At now runner Before (HasGathered reading)
     × (is_report runner.asked.request ≡ true)
+    × (reading.wanted ≡ read_tables runner.asked.request)
 StandsAs now runner (BackingUp walker answer) =
     StandsChanging now runner walker.change (BacksUp walker) answer
 StandsAs now runner (Committing stager answer) =

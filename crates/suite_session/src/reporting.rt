@@ -1,7 +1,8 @@
 // The turns of a report, which takes no lock once it has judged the greatest one:
 //
 // 1. It reads the intent (`watch`).
-// 2. It reads the tables that the intent doesn't list, and login.defs, one a turn (`gather`).
+// 2. It reads the tables on which its answer rests, those apart that the intent lists, and login.defs, one a
+//    turn (`gather`).
 // 3. It lists the locks again (`show`). Where the greatest is the same, nobody was keeper meanwhile, and
 //    the tool decides on what was read; else it was outrun. Only the answer is left then.
 ghost use Rattle.std.specs.Prelude.{◌≡◌, true, None, find, length, option_map};
@@ -35,7 +36,7 @@ pub(crate) fn watch<F: Folder>(
     ensures { TakesTurn (F.moment folder.old) (F.moment folder.new) runner.now
         (State.Watching watcher) result }
 {
-    match watcher.read_intent(alloc, folder) {
+    match watcher.read_intent(alloc, runner.asked.read_tables(), folder) {
         Ok(reading) => State::Gathering(reading),
         Err(fault) => failed(alloc, runner, CommitStage::Before, fault),
     }

@@ -2,13 +2,14 @@
 ghost use Rattle.std.specs.Prelude.{◌≡◌, ◌≤◌, length, IfOk};
 ghost use Rattle.acct_text.specs.Limits.{last_day, table_limit};
 ghost use Rattle.account_model.specs.Request.{is_report};
+ghost use Rattle.account_model.specs.SeenFiles.{read_tables};
 ghost use Rattle.account_model.specs.Words.{Asks};
 ghost use Rattle.option_words.specs.Parsed.{request_in};
 ghost use Rattle.suite_session.specs.Answers.{given_for, IsTold, memory_answer};
 ghost use Rattle.suite_session.specs.Runner.{FindsFaulty, LinesAsk};
 
 use acct_outside::{CommitStage, Token};
-use acct_text::{Bytes, Word};
+use acct_text::{Bytes, Tab, Word};
 use option_words::{FaultyLine, Parsed, Tool, first_faulty};
 use std::alloc::{AllocError, Global};
 use std::marker::Model;
@@ -76,6 +77,13 @@ impl Question {
         ensures { result ≡ is_report self.now.request }
     {
         self.parsed.is_report()
+    }
+
+    /// The tables on which its answer rests.
+    pub(crate) fn read_tables(&self) -> &'static [Tab]
+        ensures { result.now ≡ read_tables self.now.request }
+    {
+        self.parsed.read_tables()
     }
 
     /// The input, which is empty for a tool that reads none. Each line of a batch's that isn't skipped

@@ -4,7 +4,7 @@ use Rattle.acct_outside.specs.Calls.{reads}
 use Rattle.lock_steps.specs.Watching.{HasGathered, next_name}
 use Rattle.suite_session.specs.declared.state.State.TheVariants.{Gathering}
 use Rattle.suite_session.proofs.CallsLemmas.{answers-fewer, some-left}
-use Rattle.suite_session.proofs.ReportReads.{gather-calls, gather-came, gather-on, gather-quiet, gather-token, gathers-next, read-faults, unread-input}
+use Rattle.suite_session.proofs.ReportReads.{gather-calls, gather-came, gather-on, gather-keeps, gather-quiet, gathers-next, read-faults, unread-input}
 use Rattle.suite_session.proofs.TurnLemmas.{goes-on, may-step, turns}
 use Rattle.suite_session.proofs.reporting.gather.Goals as goal
 
@@ -28,6 +28,7 @@ returns-in-Ok g c = record {
       let now = g.F.Folder.moment c.read_next.new.folder in
       let reading = c.args.reading in
       let some = some-left _ _ c.left.ensures c.if-left-eq0.false in
+      let kept = gather-keeps reading _ _ c.in-Ok.ensures.call.shown in
       turns before now c.args.runner.now Before (HasGathered reading) c.requires.1
       reading.token c.requires.0 (reads (next_name reading)) tt _ (λ result stood. refl)
       c.in-Ok.ensures.call
@@ -36,13 +37,12 @@ returns-in-Ok g c = record {
       (gather-on reading c.in-Ok.ensures.call.answer c.in-Ok.reading c.in-Ok.ensures.call.shown
       (unread-input _ _ c.is_sound.ensures) (Gathering c.in-Ok.reading))
       (λ met none. absurd none) (
-        gather-token reading c.in-Ok.ensures.call.answer c.in-Ok.reading
-            c.in-Ok.ensures.call.shown
-            ∙ c.requires.0,
+        kept.0 ∙ c.requires.0,
         goes-on before now c.args.runner.now Before (HasGathered reading) c.requires.1
             reading.token c.requires.0 (reads (next_name reading)) tt _ (λ result stood. refl)
             c.in-Ok.ensures.call (HasGathered c.in-Ok.reading) c.in-Ok.ensures.next,
         c.requires.2,
+        kept.1 ∙ c.requires.3,
       )
       (λ fault. fault);
   counts =

@@ -39,7 +39,7 @@ returns-in-Ok g c = record {
       c.reported.ensures c.in-Ok.ensures.call.answer c.in-Ok.ensures.call.shown)
       (λ met none. absurd none)
       (reported-stands before now c.args.runner.now reading c.requires.stands.1
-      c.requires.stands.0 c.requires.stands.2 c.in-Ok.shown c.is_small.ensures
+      c.requires.stands.0 c.requires.stands.2 c.requires.stands.3 c.in-Ok.shown c.is_small.ensures
       c.in-Ok.ensures.call c.in-Ok.ensures.next c.reported.result c.reported.ensures)
       (reported-quiet c.args.runner.now c.in-Ok.shown c.reported.result c.reported.ensures);
   counts =

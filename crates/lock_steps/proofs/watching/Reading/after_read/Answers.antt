@@ -5,8 +5,8 @@ use Rattle.lock_steps.specs.Watching.{Gatherer}
 use Rattle.lock_steps.proofs.GatheredLemmas.{first-read}
 use Rattle.lock_steps.proofs.watching.Reading.after_read.Goals as goal
 
-pub invariant_of-self : goal.invariant_of-self
-invariant_of-self c =
+pub invariant_of-result : goal.invariant_of-result
+invariant_of-result c =
     let left = c.self.inside.left.items in
     let some = rw (sym (ap (λ (reading : Gatherer). length reading.left) c.self.view_is))
     at c.requires.left in

@@ -20,7 +20,7 @@ returns g c =
     (rw (ap (λ (lister : Lister). lister.token) c.self.view_is) at c.read-found.ensures.call) in
     takes-call watcher.token (reads Intent) tt tt (HasJudged watcher)
     (λ deeds stood held. free_read Intent) own_command (λ result stood held. refl)
-    (ReadsIntentFirst watcher) HasGathered Failed (found_result found) _ _ c.requires passes
+    (ReadsIntentFirst watcher c.args.wanted.now) HasGathered Failed (found_result found) _ _ c.requires passes
     c.after_intent.ensures.shown
-    (λ before now narrows. intent-leads before now narrows watcher.token watcher _ _)
+    (λ before now narrows. intent-leads before now narrows watcher.token watcher c.args.wanted.now _ _)
     c.after_intent.ensures.failed
