@@ -37,6 +37,7 @@ use Rattle.suite_session.specs.Belongs.{CameTo}
 use Rattle.suite_session.specs.Grows.{Grew}
 use Rattle.suite_session.specs.Bound.{HasCalled, HasCalledFree}
 use Rattle.suite_session.specs.Left.{most_lower}
+use Rattle.suite_session.specs.Looks.{HasLooksLeft}
 use Rattle.suite_session.specs.Locking.{cause_of_fault}
 use Rattle.suite_session.specs.Turning.{IsFirst, IsNew, IsUnbegun, StepsTo}
 use Rattle.suite_session.specs.Stands.{FindsNoMemory, MakesOne, MayGive, IsOutside, StandsAs, TellsOutside, TurnsTo}
@@ -46,6 +47,8 @@ use Rattle.suite_session.proofs.CauseLemmas.{told-says, told-cause, fault-failed
 use Rattle.suite_session.proofs.BoundLemmas.{backed-first, called-first}
 use Rattle.suite_session.proofs.FreeLemmas.{free-first}
 use Rattle.suite_session.proofs.GrowsLemmas.{others-extend, second-empty, tells-grow}
+use Rattle.suite_session.proofs.LooksLemmas.{looked-first}
+use Rattle.suite_session.proofs.StagingLemmas.{staged-first}
 
 -- ---- The begin
 
@@ -152,6 +155,19 @@ first-free runner (Answering answer) history only is =
     free-first runner.token runner.asked.command (Answering answer) history only (omega arith)
 first-free runner state history only is = absurd is
 
+-- it has looked at nothing
+first-looked : (runner : Runner) (state : State) (history : History) →
+    own_events runner.token history ≡ record {
+      token = runner.token;
+      call = begins runner.asked.command;
+      result = done tt;
+    } ∷ [] → IsFirst runner state → HasLooksLeft runner.token state history
+first-looked runner (Looking looking) history only is = looked-first runner.token
+    runner.asked.command (Looking looking) history only (λ look. omega arith)
+first-looked runner (Answering answer) history only is = looked-first runner.token
+    runner.asked.command (Answering answer) history only (λ look. omega arith)
+first-looked runner state history only is = absurd is
+
 -- the begin shows nothing that the session is to tell, and is its only event
 begin-came : (admits : Admission) (runner : Runner) (state : State) → IsFirst runner state →
     (before now : Option Past) →
@@ -168,7 +184,9 @@ begin-came admits runner state is (Some before) (Some now) tells =
           (tells-nothing runner.token came.between (begin-first admits runner.asked.command
           runner.token before.history now.history _ tells.1.0 tells.1.1)));
       called = first-called runner state now.history tells.1.1 is;
+      looked = first-looked runner state now.history tells.1.1 is;
       backed = backed-first runner.token runner.asked.command now.history tells.1.1;
+      staged = staged-first runner.token runner.asked.command state now.history tells.1.1;
       free = λ report. first-free runner state now.history tells.1.1 is;
     }
 begin-came admits runner state is None (Some now) tells = absurd tells

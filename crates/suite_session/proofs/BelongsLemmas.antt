@@ -25,10 +25,11 @@ use Rattle.suite_session.specs.declared.session.Phase.TheVariants.{Waiting, Begu
 use Rattle.suite_session.specs.Runner.{Question, Runner}
 use Rattle.suite_session.specs.Moment.{Runs, At}
 use Rattle.suite_session.specs.Answers.{after_fault, after_streams}
-use Rattle.suite_session.specs.Belongs.{Belongs, BelongingStays, CameTo, HasEnded, HasGiven, HasNoToken, IsOnItsWay, OthersCame, of_others}
+use Rattle.suite_session.specs.Belongs.{Belongs, BelongingStays, CameTo, HasEnded, HasGiven, HasNoToken, IsOnItsWay, OthersCame, StagesAs, of_others}
 use Rattle.suite_session.specs.Due.{IsDue}
 use Rattle.suite_session.specs.Reports.{AnswersShown}
 use Rattle.suite_session.specs.Session.{HasText, HasTextIn, IsToPut, output_failed, state_after, state_failed, token_of}
+use Rattle.suite_session.specs.Staging.{HasMovedAll}
 use Rattle.suite_session.specs.Stands.{Gives, HasLeft, KnowsDecided, StandsAs}
 use Rattle.suite_session.specs.Telling.{IsToTell, Tells}
 use Rattle.suite_session.specs.Turning.{IsUnbegun}
@@ -36,6 +37,7 @@ use Rattle.suite_session.proofs.BoundLemmas.{backed-still, called-still, others-
 use Rattle.suite_session.proofs.DueLemmas.{shown-stays}
 use Rattle.suite_session.proofs.GrowsLemmas.{others-extend}
 use Rattle.suite_session.proofs.LeavingLemmas.{clean-same, left-same}
+use Rattle.suite_session.proofs.LooksLemmas.{looked-still, once-still}
 use Rattle.suite_session.proofs.MetLemmas.{told-as}
 use Rattle.suite_session.proofs.FreeLemmas.{free-still, ran-still}
 use Rattle.suite_session.proofs.TellingLemmas.{tells-others}
@@ -285,7 +287,11 @@ module _ (before now : Moment) (runner : Runner) (others : OthersCame before now
     remembers = tells-others (IsToTell state) runner.token (of_others runner.token)
         (others-never runner.token) was.history past.history came way.remembers;
     called = called-still runner.token was.history past.history came state way.called;
+    looked = looked-still runner.token state was.history past.history
+        (others-leave runner.token was.history past.history came).same_events way.looked;
     backed = backed-still runner.token was.history past.history came way.backed;
+    staged = subst (StagesAs state)
+        (sym (others-leave runner.token was.history past.history came).same_standing) way.staged;
     free = λ report. free-still runner.token was.history past.history came state (way.free report);
   }
 
@@ -301,7 +307,12 @@ module _ (before now : Moment) (runner : Runner) (others : OthersCame before now
     drops_nothing = tells-others (Tells given.outcome.cause) runner.token (of_others runner.token)
         (others-never runner.token) was.history past.history came ended.drops_nothing;
     left = λ goes_on. left-still given was past came (ended.left goes_on);
+    moved = λ goes_on. subst HasMovedAll
+        (sym (others-leave runner.token was.history past.history came).same_standing)
+        (ended.moved goes_on);
     within = within-still runner.token was.history past.history came ended.within;
+    looked = once-still runner.token was.history past.history
+        (others-leave runner.token was.history past.history came).same_events ended.looked;
     backed = backed-still runner.token was.history past.history came ended.backed;
     free = λ report. ran-still runner.token was.history past.history came (ended.free report);
   }

@@ -20,6 +20,7 @@ mod LeavingLemmas
 mod LoadingLemmas
 mod LoadingTurns
 mod LockingLemmas
+pub mod LooksLemmas
 mod LockingTurns
 mod MeetingLemmas
 mod IntentMeeting
@@ -35,6 +36,7 @@ mod ReportStays
 mod ReportingTurns
 mod RuleLemmas
 mod SessionTurns
+pub mod StagingLemmas
 pub mod StreamLemmas
 pub mod TellingLemmas
 mod TurnLemmas

@@ -35,7 +35,7 @@ use Rattle.suite_session.specs.Counts.{LeavesFewer}
 use Rattle.suite_session.specs.Locking.{cause_of_fault}
 use Rattle.suite_session.specs.Moment.{At, Runs}
 use Rattle.suite_session.specs.NextCall.{state_call}
-use Rattle.suite_session.specs.Stands.{AnswersWith, Turns}
+use Rattle.suite_session.specs.Stands.{AnswersWith, Turns, StagesTo}
 use Rattle.suite_session.specs.Telling.{IsToTell}
 use Rattle.suite_session.proofs.BackingLemmas.{IsTurnCall}
 use Rattle.suite_session.proofs.CallsLemmas.{other-fewer}
@@ -147,14 +147,15 @@ module _ (before now : Moment) (runner : Runner) (Held : Standing → Type 0)
   pub read-faults : (old state : State) → state_call old ≡ call →
       ((met : Cause) → IsToTell old met → ⊥) → (fault : FolderFault) → Came made.answer fault →
       AnswersWith runner.asked.request.tool (cause_of_fault Before fault) state →
-      (fault ≡ Failed → HasRisen before.faults now.faults) → Turns before now runner old state
-  read-faults old state called tells_none fault came told risen =
+      (fault ≡ Failed → HasRisen before.faults now.faults) → StagesTo call state →
+      Turns before now runner old state
+  read-faults old state called tells_none fault came told risen staged =
       stops before now runner Before Held stands token same call of_turn ShowsIn quiet made
       lawful never_falls old state called (meets came)
       (λ met is_told. absurd (tells_none met is_told)) (cause_of_fault Before fault) told
       (fault-plain Before fault) (met-as fault came)
       (λ goes_on. absurd (goes_on (fault-stopped Before fault))) (sym (fault-stage Before fault))
-      (λ outside. risen (fault-failed Before fault outside))
+      (λ outside. risen (fault-failed Before fault outside)) staged
     where
       tool : Tool
       tool = runner.asked.request.tool

@@ -30,10 +30,12 @@ use Rattle.suite_session.specs.Belongs.{CameTo, IsLedTo, IsOnItsWay}
 use Rattle.suite_session.specs.Counts.{CountsTo, LeavesFewer, appends_by, others_by}
 use Rattle.suite_session.specs.Grows.{Grew}
 use Rattle.suite_session.specs.Left.{appends_left, calls_left, is_append, most_lower}
+use Rattle.suite_session.specs.Looks.{LooksLess}
 use Rattle.suite_session.specs.NextCall.{state_call}
 use Rattle.suite_session.specs.Reports.{AnswersShown}
 use Rattle.suite_session.specs.Turning.{TakesTurn, GaveLeft, HasAnswered, StepsTo}
-use Rattle.suite_session.specs.Stands.{FindsNoMemory, HasLeft, MakesOne, IsStopped, StaysTold, TurnsTo}
+use Rattle.suite_session.specs.Staging.{HasMovedAll}
+use Rattle.suite_session.specs.Stands.{FindsNoMemory, HasLeft, MakesOne, IsStopped, StagesTo, StaysTold, TurnsTo}
 use Rattle.suite_session.specs.Telling.{DropsNothing, MayFollow, Tells as CauseTells}
 use Rattle.suite_session.proofs.TellingLemmas.{tells-others, tells-own}
 use Rattle.suite_session.proofs.LeavingLemmas.{left-same}
@@ -42,7 +44,9 @@ use Rattle.suite_session.proofs.BoundLemmas.{backed-then, called-last, called-th
 use Rattle.suite_session.proofs.FreeLemmas.{StandsFree, free-last, free-then, reported-after, stands-free}
 use Rattle.suite_session.proofs.GrowsLemmas.{grows-extends, tells-grow}
 use Rattle.suite_session.proofs.DueLemmas.{shown-stays}
+use Rattle.suite_session.proofs.LooksLemmas.{looked-last, looked-then}
 use Rattle.suite_session.proofs.RuleLemmas.{rule-left}
+use Rattle.suite_session.proofs.StagingLemmas.{staged-last, staged-then}
 use Rattle.suite_session.proofs.StreamLemmas.{left-given}
 
 -- ---- A step
@@ -53,23 +57,28 @@ listed-fewer new old lower fewer most = omega (arith, fewer, most)
 
 -- a turn of a session that came to a state leads on to the next
 came-on : (admits : Admission) (runner : Runner) (old new : State) (was told : Option Past) →
-    CountsTo told runner old new → IfSome was (StandsFree runner old) →
+    CountsTo told runner old new → StagesTo (state_call old) new → LooksLess old new →
+    IfSome was (StandsFree runner old) →
     MakesOne was told runner.token (state_call old) (FindsNoMemory new) →
     Grew admits runner.token 1 was told → IfSome was (λ past. NeverAdmits admits runner.token) →
     StaysTold was told runner.token old new → IfSome was (CameTo runner old) →
     IfSome told (CameTo runner new)
-came-on admits runner old new None None counts stands one grew own stays came = tt
-came-on admits runner old new (Some was) (Some past) counts free one grew own stays came = record {
-  named = came.named;
-  remembers = stays.1 came.remembers;
-  called = called-then admits runner was past own grew.1 new old (FindsNoMemory new) one.1 counts
-      came.called;
-  backed = backed-then admits runner was past own grew.1 came.backed;
-  free = λ report. free-then runner old new was past
-      (free report (came.free report).free) (FindsNoMemory new) one.1 counts (came.free report);
-}
-came-on admits runner old new None (Some past) counts stands one grew own stays came = absurd grew
-came-on admits runner old new (Some was) None counts stands one grew own stays came = tt
+came-on admits runner old new None None counts at less stands one grew own stays came = tt
+came-on admits runner old new (Some was) (Some past) counts at less free one grew own stays came =
+    record {
+      named = came.named;
+      remembers = stays.1 came.remembers;
+      called = called-then admits runner was past own grew.1 new old (FindsNoMemory new) one.1 counts
+          came.called;
+      looked = looked-then runner.token old new was past (FindsNoMemory new) one.1 less came.looked;
+      backed = backed-then admits runner was past own grew.1 came.backed;
+      staged = staged-then runner old new was past counts one.1 at came.staged;
+      free = λ report. free-then runner old new was past
+          (free report (came.free report).free) (FindsNoMemory new) one.1 counts (came.free report);
+    }
+came-on admits runner old new None (Some past) counts at less stands one grew own stays came =
+    absurd grew
+came-on admits runner old new (Some was) None counts at less stands one grew own stays came = tt
 
 -- a turn of a session whose events led to a state leads to the next
 pub steps-to : (before now : Moment) (runner : Runner) (old new : State) →
@@ -82,7 +91,7 @@ steps-to before now runner old new led made =
         stands = record {
           stands = turns.stands;
           came = came-on before.admits runner old new before.told now.told made.counts
-              (stands-free before runner old led.stands) made.turns.makes_one turns.grew
+              made.turns.stages made.turns.looks (stands-free before runner old led.stands) made.turns.makes_one turns.grew
               (state-own before runner old led.stands) made.turns.remembers led.came;
         };
         grew = turns.grew;
@@ -204,8 +213,12 @@ module _ (before now : Moment) (runner : Runner) (status : ℕ) where
           left = λ goes_on. left-same runner.token answer.outcome.cause was past
               (ap (λ (one : Standing). one.own) step.next_standing)
               (ap (λ (one : Standing). one.listing) step.next_standing) knows (left goes_on);
+          moved = λ goes_on. subst HasMovedAll (sym step.next_standing)
+              (staged-last status (standing runner.token was.history) (came.staged goes_on));
           within = called-last before.admits runner was past may.own grew.1 answer status ⊥
               (inl (_, step.next_events)) came.called;
+          looked = looked-last runner.token (Answering answer) status was past step.next_events
+              came.looked;
           backed = backed-then before.admits runner was past may.own grew.1 came.backed;
           free = λ report. free-last runner answer status was past step.next_events
               (came.free report);

@@ -23,7 +23,7 @@ use Rattle.suite_answers.specs.declared.cause.Which.TheVariants.{File}
 use Rattle.suite_answers.specs.declared.cause.Cause.{Cause}
 use Rattle.suite_answers.specs.declared.cause.Cause.TheVariants.{Held, Gone, Raced, Outrun, LockDamaged, Exhausted, IntentDamaged, TooLarge, DiskFault}
 use Rattle.lock_steps.specs.Stands.{HasListed}
-use Rattle.suite_session.specs.Causes.{Met, MetIntent, HasKept, HasMet, HasFailed, HasListedNone, HasWatched, ComesOfCall, IsNoLockText}
+use Rattle.suite_session.specs.Causes.{Met, MetIntent, HasKept, HasFailed, HasListedNone, HasWatched, ComesOfCall, IsNoLockText, MustTell}
 use Rattle.suite_session.specs.Telling.{MayFollow, TellsMet}
 use Rattle.suite_session.proofs.GrowsLemmas.{second-empty}
 
@@ -136,21 +136,17 @@ module _ (token : Token) (history : History) (event : Event) where
           })
 
   -- what the longer history shows its last event shows, or the history before it
-  pub met-last : (met : Cause) → ComesOfCall met → HasMet token (event ∷ history) met →
-      HasMet token history met ⊎ ShowsLast met
+  pub met-last : (met : Cause) → ComesOfCall met → MustTell token (event ∷ history) met →
+      MustTell token history met ⊎ ShowsLast met
   met-last (Held holder) comes was =
-      elim (met-then (asks holder) Alive _ (Held holder) (λ stood. (refl, refl)) was.1) [
-        | inl before ↦ inl (was.0, before, was.2)
-        | inr shows ↦ inr shows
-      ]
+      met-then (asks holder) Alive _ (Held holder) (λ stood. (refl, refl)) was
   met-last (Gone number) comes was =
-      elim (met-then (reads (Lock number)) found_absent _ (Gone number) (λ stood. (refl, refl))
-      was.1) [
-        | inl before ↦ inl (was.0, before, was.2)
-        | inr shows ↦ inr shows
-      ]
+      met-then (reads (Lock number)) found_absent _ (Gone number) (λ stood. (refl, refl)) was
   met-last (Raced number) comes was =
-      elim (met-then (creates number) Exists _ (Raced number) (λ stood. (refl, refl)) was.2) [
+      met-then (creates number) Exists _ (Raced number) (λ stood. (refl, refl)) was
+  met-last (LockDamaged number) comes was =
+      elim (met-then (reads (Lock number)) was.0 _ (LockDamaged number) (λ stood. (refl, was.1))
+      was.2) [
         | inl before ↦ inl (was.0, was.1, before)
         | inr shows ↦ inr shows
       ]
@@ -164,12 +160,6 @@ module _ (token : Token) (history : History) (event : Event) where
       elim (met-then lists was.0 _ (Outrun number other) (λ stood. (was.1, was.2, inr stood))
       was.3) [
         | inl before ↦ inl (inr (was.0, was.1, was.2, before))
-        | inr shows ↦ inr shows
-      ]
-  met-last (LockDamaged number) comes was =
-      elim (met-then (reads (Lock number)) was.0 _ (LockDamaged number) (λ stood. (refl, was.1))
-      was.2) [
-        | inl before ↦ inl (was.0, was.1, before, was.3)
         | inr shows ↦ inr shows
       ]
   met-last Exhausted comes was =
@@ -204,7 +194,7 @@ module _ (Told : Cause → Type 0) (token : Token) where
       TellsMet Told token history → TellsMet Told token (event ∷ history)
   tells-other event history other tells [] older parts met comes was =
       elim (met-last token history event met comes
-      (subst (λ (one : History). HasMet token one met) (sym parts) was)) [
+      (subst (λ (one : History). MustTell token one met) (sym parts) was)) [
         | inl before ↦ ((tells [] history refl met comes before).0, tt)
         | inr shows ↦ absurd (other shows.0)
       ]
@@ -231,7 +221,7 @@ module _ (Told : Cause → Type 0) (token : Token) where
       TellsMet Told token history → TellsMet Next token (event ∷ history)
   tells-own Next event history leads shows tells [] older parts met comes was =
       elim (met-last token history event met comes
-      (subst (λ (one : History). HasMet token one met) (sym parts) was)) [
+      (subst (λ (one : History). MustTell token one met) (sym parts) was)) [
         | inl before ↦ ((leads met (tells [] history refl met comes before).0).0, tt)
         | inr last ↦ (shows met last.1, tt)
       ]
@@ -273,10 +263,10 @@ intent-there token history found none (inr met) = met-there token history _ _ _ 
 
 -- without one it has met nothing
 met-none : (token : Token) (history : History) → own_events token history ≡ [] → (met : Cause) →
-    ComesOfCall met → HasMet token history met → ⊥
-met-none token history none (Held holder) comes was = met-there token history _ _ _ none was.1
-met-none token history none (Gone number) comes was = met-there token history _ _ _ none was.1
-met-none token history none (Raced number) comes was = met-there token history _ _ _ none was.2
+    ComesOfCall met → MustTell token history met → ⊥
+met-none token history none (Held holder) comes was = met-there token history _ _ _ none was
+met-none token history none (Gone number) comes was = met-there token history _ _ _ none was
+met-none token history none (Raced number) comes was = met-there token history _ _ _ none was
 met-none token history none (Outrun number other) comes (inl was) =
     met-there token history _ _ _ none was.3
 met-none token history none (Outrun number other) comes (inr was) =

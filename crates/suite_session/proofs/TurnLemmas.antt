@@ -31,15 +31,18 @@ use Rattle.suite_session.specs.Causes.{Met}
 use Rattle.suite_session.specs.Due.{IsShown, IsDue}
 use Rattle.suite_session.specs.Grows.{Grew}
 use Rattle.suite_session.specs.Locking.{cause_of_fault}
+use Rattle.suite_session.specs.Looks.{LooksLess}
 use Rattle.suite_session.specs.NextCall.{state_call}
 use Rattle.suite_session.specs.Telling.{IsToTell, MayFollow}
-use Rattle.suite_session.specs.Stands.{Extends, FindsNoMemory, Gives, MakesOne, MayGive, HasLeft, StandsAs, AnswersWith, LeavesWith, IsOutside, IsStopped, TellsOutside, Turns}
+use Rattle.suite_session.specs.Stands.{Extends, FindsNoMemory, Gives, MakesOne, MayGive, HasLeft, StandsAs, AnswersWith, LeavesWith, IsOutside, IsStopped, StagesTo, TellsOutside, Turns}
 use Rattle.suite_session.proofs.BackingLemmas.{IsTurnCall, turn-no-answer, turn-backs-then}
 use Rattle.suite_session.proofs.CauseLemmas.{IsMetAs, IsPlain, answers-fault, fault-failed, fault-plain, fault-stage, given-cause, plain-shown, plain-undecided, told-cause, told-met, told-plain, told-says, told-stage}
 use Rattle.suite_session.proofs.GrowsLemmas.{tells-grow, grew-extends}
 use Rattle.suite_session.proofs.LeavingLemmas.{KeepsNone, LeavesUnkept, clean-else, fault-stopped, none-left}
+use Rattle.suite_session.proofs.LooksLemmas.{answers-less}
 use Rattle.suite_session.proofs.MeetingLemmas.{MeetsBy, fault-ends, fault-tells}
 use Rattle.suite_session.proofs.OwnCallLemmas.{fault-met, makes-one, stays-told}
+use Rattle.suite_session.proofs.StagingLemmas.{stopped-stages}
 
 -- what the runner was asked, and this commit
 abbrev own_of : Runner → CommitStage → OwnCommand
@@ -270,9 +273,9 @@ module _ (before now : Moment) (runner : Runner) (commit : CommitStage) (Held : 
       (leads : (met : Cause) → IsToTell old met → IsToTell state met × MayFollow met call) where
     -- a turn to a state, by how it stands there and of which faults it tells
     pub turn-made : StandsAs now runner state →
-        (TellsOutside state → HasRisen before.faults now.faults) →
-        Turns before now runner old state
-    turn-made stood risen = record {
+        (TellsOutside state → HasRisen before.faults now.faults) → StagesTo call state →
+        LooksLess old state → Turns before now runner old state
+    turn-made stood risen staged less = record {
       turns = record {
         stands = stood;
         grew = grown;
@@ -287,11 +290,13 @@ module _ (before now : Moment) (runner : Runner) (commit : CommitStage) (Held : 
           made old state meets);
       remembers = stays-told before now runner commit Held stands token same call no_answer Shows
           made old state meets leads;
+      stages = subst (λ one. StagesTo one state) (sym is) staged;
+      looks = less;
     }
 
     -- a turn to a state that tells of no fault
-    pub turns : StandsAs now runner state → (TellsOutside state → ⊥) →
-        Turns before now runner old state
+    pub turns : StandsAs now runner state → (TellsOutside state → ⊥) → StagesTo call state →
+        LooksLess old state → Turns before now runner old state
     turns stood quiet_state =
         turn-made stood (λ fault. absurd (quiet_state fault))
 
@@ -299,10 +304,12 @@ module _ (before now : Moment) (runner : Runner) (commit : CommitStage) (Held : 
     pub stops : (cause : Cause) → AnswersWith runner.asked.request.tool cause state →
         IsPlain cause → HasMetNow now runner cause → HasLeftNow now runner cause →
         commit ≡ stage_of cause →
-        (IsOutside cause → HasRisen before.faults now.faults) → Turns before now runner old state
-    stops cause told plain met has_left is failed =
+        (IsOutside cause → HasRisen before.faults now.faults) → StagesTo call state →
+        Turns before now runner old state
+    stops cause told plain met has_left is failed staged =
         turn-made (answers-turn cause state told plain met has_left is)
-        (λ fault. failed (answers-fault runner.asked.request.tool cause state told fault))
+        (λ fault. failed (answers-fault runner.asked.request.tool cause state told fault)) staged
+        (answers-less runner.asked.request.tool cause old state told)
 
   -- a turn to the answer of a call that came to a fault
   pub faults : AlwaysStaysLawful before now → before.faults ≤ now.faults →
@@ -321,3 +328,4 @@ module _ (before now : Moment) (runner : Runner) (commit : CommitStage) (Held : 
       (λ goes_on. absurd (goes_on (fault-stopped stage fault)))
       (at ∙ sym (fault-stage stage fault))
       (λ outside. risen (fault-failed stage fault outside))
+      (stopped-stages tool stage fault state told call)

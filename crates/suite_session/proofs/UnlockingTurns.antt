@@ -28,6 +28,7 @@ use Rattle.suite_session.specs.Telling.{IsLeavingCall, MayFollow}
 use Rattle.suite_session.specs.Stands.{IsOutside, StandsUnlocking, StandsFreeing, Turns}
 use Rattle.suite_session.proofs.TurnLemmas.{goes-on, extended, turns}
 use Rattle.suite_session.proofs.LeavingLemmas.{clean-stays, freed-left}
+use Rattle.suite_session.proofs.LooksLemmas.{few-less}
 use Rattle.suite_session.proofs.MeetingLemmas.{locks-done, quiet-on}
 use Rattle.suite_rules.proofs.StepLemmas.{may-answer-now}
 use Rattle.suite_session.proofs.DueLemmas.{gives-stay}
@@ -111,7 +112,8 @@ module _ (before now : Moment) (runner : Runner) (answer : FinalAnswer) where
               keeper.token stood.same call tt _ (λ result stood. refl) made)
               stood.gives;
         })
-        (λ fault. fault)
+        (λ fault. fault) tt
+        (few-less (Unlocking keeper answer) (Unlocking kept answer) tt refl)
 
     -- it stages the free text
     pub stages : (freeing : Maker) → unlocking_call keeper ≡ writes FreeStage free_text →
@@ -154,7 +156,8 @@ module _ (before now : Moment) (runner : Runner) (answer : FinalAnswer) where
               keeper.token stood.same call tt _ (λ result stood. refl) made)
               stood.gives;
         })
-        (λ fault. fault)
+        (λ fault. fault) refl
+        (few-less (Unlocking keeper answer) (Freeing freeing answer) tt refl)
 
   module _ (freeing : Maker) (stood : StandsFreeing before runner freeing answer) where
     -- it moves the free text to its lock
@@ -196,4 +199,4 @@ module _ (before now : Moment) (runner : Runner) (answer : FinalAnswer) where
               (clean-stays runner.token answer.outcome.cause before.told now.told kept_work
               stood.clean);
         })
-        stood.quiet
+        stood.quiet tt (few-less (Freeing freeing answer) (Answering answer) tt refl)

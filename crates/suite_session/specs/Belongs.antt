@@ -13,8 +13,10 @@ use Rattle.acct_outside.specs.Contract.{NeverAdmits, WhereTold}
 use Rattle.acct_outside.specs.Moment.{Past, Moment, Narrows}
 use Rattle.account_model.specs.declared.tool.Tool.{Tool}
 use Rattle.account_model.specs.Request.{is_report}
+use Rattle.suite_rules.specs.Standing.{Standing, standing}
 use Rattle.suite_answers.specs.declared.answer.Answer.{Answer}
 use Rattle.suite_session.specs.declared.state.State.{State}
+use Rattle.suite_session.specs.declared.state.State.TheVariants.{Answering}
 use Rattle.suite_session.specs.declared.session.Phase.{Phase}
 use Rattle.suite_session.specs.declared.session.Phase.TheVariants.{Waiting, Begun, Over, Unbegun}
 use Rattle.suite_session.specs.Runner.{Runner}
@@ -23,21 +25,32 @@ use Rattle.suite_session.specs.Backing.{BackedUpChanges}
 use Rattle.suite_session.specs.Bound.{HasCalled, HasCalledFree, IsWithin}
 use Rattle.suite_session.specs.Due.{IsDue}
 use Rattle.suite_session.specs.Locking.{cause_of_fault}
+use Rattle.suite_session.specs.Looks.{HasLooksLeft, LooksOnce}
 use Rattle.suite_session.specs.Reports.{RunsFree}
+use Rattle.suite_session.specs.Staging.{HasMovedAll, StagesAt, staged_in}
 use Rattle.suite_session.specs.Stands.{HasLeft, IsStopped, StandsAs}
 use Rattle.suite_session.specs.Telling.{DropsNothing, Remembers}
 use Rattle.suite_session.specs.Session.{HasText, HasTextIn, IsToPut, output_failed, state_after, token_of}
 
 -- ---- A session on its way
 
+-- in this state a session has staged bytes at its name alone; where nothing stopped it, it answers once it
+-- has moved all
+abbrev pub StagesAs : State → Standing → Type 0
+StagesAs (Answering answer) stood = (IsStopped answer.outcome.cause → ⊥) → HasMovedAll stood
+StagesAs state stood = StagesAt (staged_in state) stood
+
 -- The runner came to the state, from a begin that gave its token: it drops nothing that it has met, its
--- calls are within the bound with those that are left, it has backed up tables that it was to change alone,
--- and a report has changed no name.
+-- calls are within the bound with those that are left, and so are its looks, it has backed up tables that it
+-- was to change alone, has moved what it has staged but at the name of its state, and a report has changed
+-- no name.
 pub record CameTo (runner : Runner) (state : State) (past : Past) : Type 0 where
   pub named : IsToken runner.token
   pub remembers : Remembers runner.token state past.history
   pub called : HasCalled runner.token state past.history
+  pub looked : HasLooksLeft runner.token state past.history
   pub backed : BackedUpChanges runner.token past.history
+  pub staged : StagesAs state (standing runner.token past.history)
   pub free : is_report runner.asked.request ≡ true →
       HasCalledFree runner.token state past.history
 
@@ -57,9 +70,9 @@ pub record IsOnItsWay (now : Moment) (runner : Runner) (state : State) : Type 0 
 -- ---- A session that has answered
 
 -- The last of the runner's events is its answer, with this status. What it had to give is due and drops
--- nothing that it has met; it has left the locks and the intent as it must with that, unless a fault or
--- want of memory stopped it; its events are within the bound, it has backed up tables that it was to
--- change alone, and a report has changed no name.
+-- nothing that it has met; it has left the locks and the intent as it must with that, and has moved all that
+-- it staged, unless a fault or want of memory stopped it; its events are within the bound, and so are its
+-- looks, it has backed up tables that it was to change alone, and a report has changed no name.
 pub record HasEnded (runner : Runner) (given : Answer) (status : ℕ) (past : Past) : Type 0 where
   pub named : IsToken runner.token
   pub before : History
@@ -69,7 +82,10 @@ pub record HasEnded (runner : Runner) (given : Answer) (status : ℕ) (past : Pa
   pub drops_nothing : DropsNothing runner.token given.outcome.cause past.history
   pub left : (IsStopped given.outcome.cause → ⊥) →
       HasLeft runner.token given.outcome.cause past
+  pub moved : (IsStopped given.outcome.cause → ⊥) →
+      HasMovedAll (standing runner.token past.history)
   pub within : IsWithin runner.token past.history
+  pub looked : LooksOnce runner.token past.history
   pub backed : BackedUpChanges runner.token past.history
   pub free : is_report runner.asked.request ≡ true → RunsFree runner.token past.history
 

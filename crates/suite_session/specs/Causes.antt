@@ -178,3 +178,20 @@ HasMet token history (DiskFault stage) = HasFailed token history
 HasMet token history InputFault = ⊥
 HasMet token history ClockFault = ⊥
 HasMet token history cause = ⊤
+
+-- ---- What it is to tell
+
+-- however the session stood
+abbrev pub Anyhow : Standing → Type 0
+Anyhow standing = ⊤
+
+-- The session is to tell the cause once one of its calls answered so, whatever it has listed or read since
+-- or before: a holder that is told alive, a lock that is gone or damaged, one that stands already. Of what
+-- else it met it is to tell what shows that.
+abbrev pub MustTell : Token → History → Cause → Type 0
+MustTell token history (Held holder) = Met token (asks holder) Alive Anyhow history
+MustTell token history (Gone number) = Met token (reads (Lock number)) found_absent Anyhow history
+MustTell token history (Raced number) = Met token (creates number) Exists Anyhow history
+MustTell token history (LockDamaged number) = (found : Found) × IsNoLockText found
+    × Met token (reads (Lock number)) found Anyhow history
+MustTell token history cause = HasMet token history cause

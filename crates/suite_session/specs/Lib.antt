@@ -10,6 +10,8 @@ pub mod Telling
 pub mod Backing
 pub mod Grows
 pub mod NextCall
+pub mod Looks
+pub mod Staging
 pub mod Stands
 pub mod Recovering
 pub mod Loading

@@ -1,10 +1,11 @@
 -- How a session stands in each of its states, by its own events, and what one turn of it does.
 use Rattle.std.specs.Prelude.{◌≡◌, ◌≢◌, ◌⊎◌, ◌∷◌, ⊤, true, false, ℕ, ◌<◌, ◌≤◌, ◌++◌, length, Option, Some, IfSome}
 use Rattle.acct_outside.specs.Faults.{HasRisen}
+use Rattle.acct_outside.specs.declared.Name.{Name}
 use Rattle.acct_outside.specs.declared.Name.TheVariants.{Table, Defs}
 use Rattle.acct_outside.specs.Names.{greatest_lock}
 use Rattle.acct_outside.specs.Tokens.{Token}
-use Rattle.acct_outside.specs.Calls.{Call, Answer as CallAnswer, CallResult}
+use Rattle.acct_outside.specs.Calls.{Call, Answer as CallAnswer, CallResult, appends, writes}
 use Rattle.acct_outside.specs.History.{History, own_events}
 use Rattle.acct_outside.specs.Contract.{MayAnswer, WhereTold}
 use Rattle.suite_rules.specs.OwnLock.{kept_number}
@@ -37,7 +38,9 @@ use Rattle.suite_session.specs.Answers.{answer_on, IsAnswerOn, given_for, memory
 use Rattle.suite_session.specs.Deeds.{AreOfTools}
 use Rattle.suite_session.specs.Causes.{HasKept, HasListedNone}
 use Rattle.suite_session.specs.Due.{IsDue}
+use Rattle.suite_session.specs.Looks.{LooksLess}
 use Rattle.suite_session.specs.NextCall.{state_call}
+use Rattle.suite_session.specs.Staging.{staged_in}
 use Rattle.suite_session.specs.Telling.{Remembers}
 use Rattle.suite_session.specs.Grows.{Grew}
 
@@ -240,9 +243,22 @@ abbrev pub StaysTold : Option Past → Option Past → Token → State → State
 StaysTold before now token old new = WhereTold before now (λ first older newer.
     Remembers token old older → Remembers token new newer)
 
+-- the state has bytes staged at the name, or answers that it was stopped
+abbrev pub HasStagedAt : Name → State → Type 0
+HasStagedAt name (Answering answer) = IsStopped answer.outcome.cause
+HasStagedAt name state = staged_in state ≡ Some name
+
+-- a call that stages bytes leads to such a state
+abbrev pub StagesTo : Call → State → Type 0
+StagesTo (writes name bytes) state = HasStagedAt name state
+StagesTo (appends name piece) state = HasStagedAt name state
+StagesTo call state = ⊤
+
 -- One turn of the runner from a state to another: it makes the call of the old state, or none where there
--- was no memory, and drops nothing that it has met.
+-- was no memory, drops nothing that it has met, and looks at nothing once more than it may.
 pub record Turns (before now : Moment) (runner : Runner) (old new : State) : Type 0 where
   pub turns : TurnsTo before now runner.token 1 (StandsAs now runner new) (TellsOutside new)
   pub makes_one : MakesOne before.told now.told runner.token (state_call old) (FindsNoMemory new)
   pub remembers : StaysTold before.told now.told runner.token old new
+  pub stages : StagesTo (state_call old) new
+  pub looks : LooksLess old new

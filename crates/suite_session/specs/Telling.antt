@@ -10,7 +10,7 @@ use Rattle.suite_answers.specs.declared.cause.Cause.{Cause}
 use Rattle.suite_answers.specs.declared.cause.Cause.TheVariants.{Outrun, DiskFault, OutputFault, Memory}
 use Rattle.suite_session.specs.declared.state.State.{State}
 use Rattle.suite_session.specs.declared.state.State.TheVariants.{Withdrawing, Unlocking, Freeing, Answering}
-use Rattle.suite_session.specs.Causes.{ComesOfCall, HasMet}
+use Rattle.suite_session.specs.Causes.{ComesOfCall, MustTell}
 
 -- a fault of the folder or of a stream, or want of memory, may come after whatever a session met
 abbrev pub IsLater : Cause → Type 0
@@ -42,7 +42,7 @@ OnlyFollow token met =
 -- only calls that may follow
 abbrev pub TellsMet : (Cause → Type 0) → Token → History → Type 0
 TellsMet Tells token history = (newer older : History) → history ≡ newer ++ older → (met : Cause) →
-    ComesOfCall met → HasMet token older met → Tells met × OnlyFollow token met newer
+    ComesOfCall met → MustTell token older met → Tells met × OnlyFollow token met newer
 
 -- an answer with the first cause tells what was met: that itself, or what came later
 abbrev pub Tells : Cause → Cause → Type 0

@@ -7,6 +7,8 @@ use Rattle.commit_steps.specs.Stands.{BacksUp}
 use Rattle.commit_steps.specs.Outcomes.{backs_up_more}
 use Rattle.commit_steps.proofs.NextLemmas.{backs-on}
 use Rattle.suite_session.specs.declared.state.State.TheVariants.{BackingUp}
+use Rattle.suite_session.proofs.LooksLemmas.{few-less}
+use Rattle.suite_session.proofs.StagingLemmas.{backup-added}
 use Rattle.suite_session.proofs.TurnLemmas.{turns, faults}
 use Rattle.suite_session.proofs.CauseLemmas.{fault-outside}
 use Rattle.suite_session.proofs.LeadsLemmas.{leads-on, leads-stage, leads-failed}
@@ -45,7 +47,10 @@ returns-in-Ok g c = record {
       (backs-to before now c.args.runner.now c.args.answer walker c.requires
       (backs_up_more walker shown.0) tt (λ result stood. refl) (append_on walker) c.in-Ok.backing
       refl shown.1 c.in-Ok.ensures.next)
-      (λ fault. fault);
+      (λ fault. fault)
+      (backup-added walker shown.0 shown.2 c.args.answer c.in-Ok.backing
+      (leads-on (append_on walker) before_commit shown.1.answer c.in-Ok.backing shown.1.shown))
+      (few-less (BackingUp walker c.args.answer) (BackingUp c.in-Ok.backing c.args.answer) tt refl);
   counts =
       let walker = c.args.backing in
       let some = some-left _ _ c.pieces.ensures c.if-pieces-eq0.false in

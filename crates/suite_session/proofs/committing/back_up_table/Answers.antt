@@ -1,4 +1,4 @@
-use Rattle.std.proofs.Common.{sym, ap, ◌∙◌, Err}
+use Rattle.std.proofs.Common.{refl, sym, ap, ◌∙◌, Err}
 use Rattle.acct_outside.specs.declared.CommitStage.TheVariants.{Before}
 use Rattle.commit_steps.specs.States.{step_on}
 use Rattle.commit_steps.specs.Walks.{token_of}
@@ -7,6 +7,8 @@ use Rattle.commit_steps.specs.Outcomes.{backup_call}
 use Rattle.suite_rules.specs.Outcomes.{before_commit}
 use Rattle.suite_session.specs.declared.state.State.TheVariants.{BackingUp}
 use Rattle.commit_steps.proofs.NextLemmas.{backs-some}
+use Rattle.suite_session.proofs.LooksLemmas.{few-less}
+use Rattle.suite_session.proofs.StagingLemmas.{backup-stepped}
 use Rattle.suite_session.proofs.TurnLemmas.{turns, faults}
 use Rattle.suite_session.proofs.CauseLemmas.{fault-outside}
 use Rattle.suite_session.proofs.LeadsLemmas.{leads-on, leads-stage, leads-failed}
@@ -43,7 +45,12 @@ returns-in-Ok g c = record {
       c.args.backing shown.0 c.requires.stands.of_change shown.2)
       (backup-quiet c.args.backing shown.0) (step_on c.args.backing) c.in-Ok.backing
       (step-change c.args.backing) shown.1 c.in-Ok.ensures.next)
-      (λ fault. fault);
+      (λ fault. fault)
+      (backup-stepped c.args.backing shown.0 shown.2 c.args.answer c.in-Ok.backing
+      (leads-on (step_on c.args.backing) before_commit shown.1.answer c.in-Ok.backing
+      shown.1.shown))
+      (few-less (BackingUp c.args.backing c.args.answer) (BackingUp c.in-Ok.backing c.args.answer)
+      tt refl);
   counts =
       let shown = at-place c.args.backing (some-left _ _ c.left.ensures c.if-left-eq0.false)
       c.in-Ok.ensures.call in

@@ -9,6 +9,7 @@ use Rattle.commit_steps.specs.Stands.{Installs}
 use Rattle.suite_session.specs.declared.state.State.TheVariants.{Installing, Unlocking}
 use Rattle.suite_session.specs.Stands.{Turns}
 use Rattle.commit_steps.proofs.InstallNextLemmas.{installs-none}
+use Rattle.suite_session.proofs.LooksLemmas.{few-less}
 use Rattle.suite_session.proofs.TurnLemmas.{turns, faults}
 use Rattle.suite_session.proofs.CauseLemmas.{fault-outside}
 use Rattle.suite_session.proofs.LeadsLemmas.{leads-on, leads-stage, leads-failed}
@@ -42,7 +43,9 @@ returns-in-Ok g c = record {
       (removes Intent) tt _ (λ result stood. refl) c.in-Ok.ensures.call c.in-Ok.cleared
       (leads-on c.args.installing.change.inputs.keeper after_commit c.in-Ok.ensures.call.answer
       c.in-Ok.cleared c.in-Ok.ensures.call.shown) c.in-Ok.ensures.next)
-      (λ fault. fault));
+      (λ fault. fault) tt
+      (few-less (Installing c.args.installing c.args.answer)
+      (Unlocking c.in-Ok.cleared c.args.answer) tt refl));
   counts =
       cleared-calls c.args.installing c.forget.result c.args.answer
       (c.forget.ensures ∙ (c.release.ensures

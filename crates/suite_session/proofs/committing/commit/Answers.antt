@@ -7,6 +7,7 @@ use Rattle.commit_steps.specs.States.{append_intent, intent_piece}
 use Rattle.commit_steps.specs.Stands.{HasStagedIntent}
 use Rattle.commit_steps.proofs.NextLemmas.{commits-on}
 use Rattle.suite_session.specs.declared.state.State.TheVariants.{Committing}
+use Rattle.suite_session.proofs.LooksLemmas.{few-less}
 use Rattle.suite_session.proofs.TurnLemmas.{turns, faults}
 use Rattle.suite_session.proofs.CauseLemmas.{fault-outside}
 use Rattle.suite_session.proofs.LeadsLemmas.{leads-on, leads-stage, leads-failed}
@@ -43,7 +44,8 @@ returns-in-Ok g c = record {
       (λ met none. absurd none)
       (adds-intent before now c.args.runner.now c.args.answer stager c.requires call tt
       (λ result stood. refl) c.in-Ok.staged c.in-Ok.ensures.call c.in-Ok.ensures.next)
-      (λ fault. fault);
+      (λ fault. fault) refl
+      (few-less (Committing stager c.args.answer) (Committing c.in-Ok.staged c.args.answer) tt refl);
   counts =
       let stager = c.args.staged in
       let some = some-left _ _ c.pieces.ensures c.if-pieces-eq0.false in

@@ -1,4 +1,4 @@
-use Rattle.std.proofs.Common.{sym, ap, subst, ◌∙◌, Err}
+use Rattle.std.proofs.Common.{refl, sym, ap, subst, ◌∙◌, Err}
 use Rattle.suite_rules.specs.Outcomes.{at_commit}
 use Rattle.commit_steps.specs.States.{walk_of}
 use Rattle.suite_session.specs.Locking.{cause_of_fault}
@@ -6,13 +6,15 @@ use Rattle.suite_session.proofs.CauseLemmas.{answers-fault}
 use Rattle.suite_session.proofs.LeadsLemmas.{leads-on}
 use Rattle.suite_session.proofs.CommittingTurns.{is-deed, commit-grew, commits-stands, unsure-stands, commit-ended, commit-failed}
 use Rattle.suite_session.proofs.MeetingLemmas.{fault-ends, leads-done, quiet-on}
+use Rattle.suite_session.proofs.LooksLemmas.{answers-less, few-less}
 use Rattle.suite_session.proofs.OwnCallLemmas.{fault-met, makes-one, stays-told}
+use Rattle.suite_session.proofs.StagingLemmas.{stopped-stages}
 use Rattle.acct_outside.specs.declared.Name.TheVariants.{Intent, IntentStage}
 use Rattle.acct_outside.specs.Calls.{Call, renames}
 use Rattle.acct_outside.specs.declared.CommitStage.TheVariants.{Before}
 use Rattle.commit_steps.specs.Stands.{HasStagedIntent}
 use Rattle.commit_steps.proofs.NextLemmas.{commits-whole}
-use Rattle.suite_session.specs.Stands.{FindsNoMemory, MakesOne}
+use Rattle.suite_session.specs.Stands.{FindsNoMemory, MakesOne, StagesTo}
 use Rattle.suite_session.specs.declared.state.State.TheVariants.{Committing, Installing}
 use Rattle.suite_session.proofs.CallsLemmas.{answers-fewer, committing-some}
 use Rattle.suite_session.proofs.CommitCalls.{committed-calls}
@@ -60,6 +62,11 @@ returns-in-Ok g c = record {
             (Committing c.args.staged c.args.answer) (Installing c.in-Ok.installing c.args.answer)
             meets
             (λ met none. absurd none);
+        stages = subst (λ (one : Call). StagesTo one
+            (Installing c.in-Ok.installing c.args.answer))
+            (sym (commits-whole c.args.staged c.requires.whole)) tt;
+        looks = few-less (Committing c.args.staged c.args.answer)
+            (Installing c.in-Ok.installing c.args.answer) tt refl;
       };
   counts =
       committed-calls c.args.staged c.in-Ok.installing c.args.answer
@@ -115,6 +122,9 @@ returns-in-Err g c = record {
             (renames IntentStage Intent) tt _ c.in-Err.ensures.call
             (Committing c.args.staged c.args.answer) c.given_up.result meets
             (λ met none. absurd none);
+        stages = stopped-stages tool fault.stage fault.fault c.given_up.result c.given_up.ensures _;
+        looks = answers-less tool (cause_of_fault fault.stage fault.fault)
+            (Committing c.args.staged c.args.answer) c.given_up.result c.given_up.ensures;
       };
   counts =
       answers-fewer _ _ c.given_up.result c.given_up.ensures _

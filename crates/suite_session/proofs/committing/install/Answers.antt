@@ -7,6 +7,8 @@ use Rattle.commit_steps.specs.Stands.{Installs}
 use Rattle.commit_steps.specs.Outcomes.{installs_more}
 use Rattle.commit_steps.proofs.InstallNextLemmas.{adds-on}
 use Rattle.suite_session.specs.declared.state.State.TheVariants.{Installing}
+use Rattle.suite_session.proofs.LooksLemmas.{few-less}
+use Rattle.suite_session.proofs.StagingLemmas.{install-added}
 use Rattle.suite_session.proofs.TurnLemmas.{turns, faults}
 use Rattle.suite_session.proofs.CauseLemmas.{fault-outside}
 use Rattle.suite_session.proofs.LeadsLemmas.{leads-on, leads-stage, leads-failed}
@@ -48,7 +50,11 @@ returns-in-Ok g c = record {
       c.in-Ok.installing refl
       (leads-on (append_on walker) after_commit shown.1.answer c.in-Ok.installing shown.1.shown)
       c.in-Ok.ensures.next)
-      (λ fault. fault);
+      (λ fault. fault)
+      (install-added walker shown.0 shown.2 c.args.answer c.in-Ok.installing
+      (leads-on (append_on walker) after_commit shown.1.answer c.in-Ok.installing shown.1.shown))
+      (few-less (Installing walker c.args.answer) (Installing c.in-Ok.installing c.args.answer) tt
+      refl);
   counts =
       let walker = c.args.installing in
       let some = some-left _ _ c.pieces.ensures c.if-pieces-eq0.false in

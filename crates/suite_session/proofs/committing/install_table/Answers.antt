@@ -1,4 +1,4 @@
-use Rattle.std.proofs.Common.{sym, ap, ◌∙◌, Err}
+use Rattle.std.proofs.Common.{refl, sym, ap, ◌∙◌, Err}
 use Rattle.acct_outside.specs.declared.CommitStage.TheVariants.{Committed}
 use Rattle.commit_steps.specs.States.{step_on}
 use Rattle.commit_steps.specs.Walks.{token_of}
@@ -7,6 +7,8 @@ use Rattle.commit_steps.specs.Outcomes.{install_call}
 use Rattle.suite_rules.specs.Outcomes.{after_commit}
 use Rattle.suite_session.specs.declared.state.State.TheVariants.{Installing}
 use Rattle.commit_steps.proofs.InstallNextLemmas.{installs-some}
+use Rattle.suite_session.proofs.LooksLemmas.{few-less}
+use Rattle.suite_session.proofs.StagingLemmas.{install-stepped}
 use Rattle.suite_session.proofs.TurnLemmas.{turns, faults}
 use Rattle.suite_session.proofs.CauseLemmas.{fault-outside}
 use Rattle.suite_session.proofs.LeadsLemmas.{leads-on, leads-stage, leads-failed}
@@ -42,7 +44,12 @@ returns-in-Ok g c = record {
       c.in-Ok.installing (step-change c.args.installing)
       (leads-on (step_on c.args.installing) after_commit shown.1.answer c.in-Ok.installing
       shown.1.shown) c.in-Ok.ensures.next)
-      (λ fault. fault);
+      (λ fault. fault)
+      (install-stepped c.args.installing shown.0 shown.2 c.args.answer c.in-Ok.installing
+      (leads-on (step_on c.args.installing) after_commit shown.1.answer c.in-Ok.installing
+      shown.1.shown))
+      (few-less (Installing c.args.installing c.args.answer)
+      (Installing c.in-Ok.installing c.args.answer) tt refl);
   counts =
       let shown = at-place c.args.installing (some-left _ _ c.left.ensures c.if-left-eq0.false)
       c.in-Ok.ensures.call in

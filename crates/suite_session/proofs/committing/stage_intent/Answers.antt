@@ -8,6 +8,7 @@ use Rattle.commit_steps.specs.Walks.{token_of}
 use Rattle.commit_steps.specs.Stands.{BacksUp}
 use Rattle.suite_session.specs.declared.state.State.TheVariants.{BackingUp, Committing}
 use Rattle.commit_steps.proofs.NextLemmas.{backs-none}
+use Rattle.suite_session.proofs.LooksLemmas.{few-less}
 use Rattle.suite_session.proofs.TurnLemmas.{turns, faults}
 use Rattle.suite_session.proofs.CauseLemmas.{fault-outside}
 use Rattle.suite_session.proofs.LeadsLemmas.{leads-on, leads-stage, leads-failed}
@@ -38,7 +39,9 @@ returns-in-Ok g c = record {
       (stages-intent before now c.args.runner.now c.args.answer c.args.backing c.requires.stands
       (writes IntentStage (intent_piece 0 c.args.backing.change)) tt (λ result stood. refl)
       c.in-Ok.staged c.in-Ok.ensures.call c.in-Ok.ensures.next)
-      (λ fault. fault);
+      (λ fault. fault) refl
+      (few-less (BackingUp c.args.backing c.args.answer) (Committing c.in-Ok.staged c.args.answer)
+      tt refl);
   counts =
       intended-calls c.args.backing c.in-Ok.staged c.args.answer
       (leads-on (begun_of c.args.backing.change) before_commit _ c.in-Ok.staged

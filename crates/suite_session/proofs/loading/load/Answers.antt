@@ -3,6 +3,7 @@ use Rattle.acct_outside.specs.Calls.{reads}
 use Rattle.acct_outside.specs.declared.CommitStage.TheVariants.{Before}
 use Rattle.commit_steps.specs.States.{next_name}
 use Rattle.commit_steps.specs.Stands.{HasRead}
+use Rattle.suite_session.proofs.LooksLemmas.{ends-less, loads-less}
 use Rattle.suite_session.proofs.TurnLemmas.{turn-made, turns}
 use Rattle.suite_session.proofs.LoadingTurns.{load-on, load-ends, loads-stands, loads-quiet, ended-stands, ended-failed}
 use Rattle.suite_session.specs.declared.state.State.TheVariants.{Loading}
@@ -26,7 +27,9 @@ returns-in-Ok g c = record {
       (loads-stands before now c.args.runner.now c.args.loader c.requires.1 c.requires.0
       c.in-Ok.loading c.after_load.result c.after_load.ensures c.in-Ok.ensures.step.call
       c.in-Ok.ensures.step.next)
-      (loads-quiet c.args.runner.now c.in-Ok.loading c.after_load.result c.after_load.ensures);
+      (loads-quiet c.args.runner.now c.in-Ok.loading c.after_load.result c.after_load.ensures) tt
+      (loads-less c.args.runner.now c.args.loader c.in-Ok.loading c.after_load.result
+      c.after_load.ensures);
   counts =
       loads-calls c.args.runner.now c.args.loader c.in-Ok.loading c.after_load.result
       c.in-Ok.ensures.step.call.answer c.is_sound.ensures c.after_load.ensures
@@ -55,7 +58,8 @@ returns-in-Err g c = record {
       c.in-Err.ensures.refused)
       (λ told. c.load_next.ensures.step.faults.failed (c.in-Err.is ∙ ap Err
       (ended-failed _ end c.ended.result c.ended.ensures c.args.loader
-      c.in-Err.ensures.step.call.answer c.in-Err.ensures.step.call.shown told)));
+      c.in-Err.ensures.step.call.answer c.in-Err.ensures.step.call.shown told))) tt
+      (ends-less tool end (Loading c.args.loader) c.ended.result c.ended.ensures);
   counts =
       ended-calls _ c.args.loader c.in-Err.ensures.step.call.answer c.in-Err.end c.ended.result
       c.ended.ensures c.in-Err.ensures.step.call.shown;

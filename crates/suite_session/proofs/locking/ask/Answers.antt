@@ -3,6 +3,7 @@ use Rattle.suite_session.specs.declared.state.State.TheVariants.{Asking}
 use Rattle.acct_outside.specs.Calls.{asks}
 use Rattle.lock_steps.specs.Stands.{HasReadHeld, HasJudged}
 use Rattle.suite_session.proofs.MetLemmas.{ask-met}
+use Rattle.suite_session.proofs.LooksLemmas.{ask-less}
 use Rattle.suite_session.proofs.TurnLemmas.{ended, got, unkept-left, goes-on, turns, stops}
 use Rattle.suite_session.proofs.LeavingLemmas.{ask-unkept}
 use Rattle.suite_session.proofs.LockingLemmas.{end-plain, end-stage, end-failed, asks-token}
@@ -33,7 +34,8 @@ returns-in-Ok g c = record {
       (goes-on before now c.args.runner.now Before (HasReadHeld c.args.asking) c.requires.1
       c.args.asking.token c.requires.0 (asks c.args.asking.asked) tt _ (λ result stood. refl)
       c.in-Ok.ensures.call (HasJudged c.in-Ok.judged) c.in-Ok.ensures.next))
-      (judged-quiet c.args.runner.now.asked.request c.in-Ok.judged));
+      (judged-quiet c.args.runner.now.asked.request c.in-Ok.judged) tt
+      (ask-less c.args.runner.now.asked.request c.args.asking c.in-Ok.judged));
   counts =
       rw c.after_judging.ensures
       (ask-calls c.args.runner.now.asked.request c.args.asking c.in-Ok.judged);
@@ -71,7 +73,7 @@ returns-in-Err g c = record {
       c.in-Err.ensures.call.shown))
       (sym (end-stage c.in-Err.end))
       (λ fault. c.ask.ensures.faults.failed
-      (c.in-Err.is ∙ ap Err (end-failed c.in-Err.end fault)));
+      (c.in-Err.is ∙ ap Err (end-failed c.in-Err.end fault))) tt;
   counts =
       answers-near _ _ (Asking c.args.asking) c.stopped.result c.stopped.ensures (omega arith);
 }

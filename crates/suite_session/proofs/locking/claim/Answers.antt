@@ -3,6 +3,7 @@ use Rattle.suite_session.specs.declared.state.State.TheVariants.{Claiming, Confi
 use Rattle.acct_outside.specs.Calls.{creates}
 use Rattle.lock_steps.specs.Stands.{HasMade, HasJudged}
 use Rattle.suite_session.proofs.MetLemmas.{claim-met}
+use Rattle.suite_session.proofs.LooksLemmas.{few-less}
 use Rattle.suite_session.proofs.TurnLemmas.{ended, got, unkept-left, goes-on, turns, stops}
 use Rattle.suite_session.proofs.LeavingLemmas.{claim-unkept}
 use Rattle.suite_session.proofs.LockingLemmas.{end-plain, end-stage, end-failed, claims-token}
@@ -34,7 +35,8 @@ returns-in-Ok g c = record {
             c.in-Ok.ensures.call
             (HasMade c.in-Ok.claimed) c.in-Ok.ensures.next,
       )
-      (λ fault. fault);
+      (λ fault. fault) tt
+      (few-less (Claiming c.args.judged) (Confirming c.in-Ok.claimed) tt refl);
   counts = claim-calls c.args.judged c.in-Ok.claimed;
 }
 
@@ -73,7 +75,7 @@ returns-in-Err g c = record {
       c.in-Err.ensures.call.shown))
       (sym (end-stage c.in-Err.end))
       (λ fault. c.claim.ensures.faults.failed
-      (c.in-Err.is ∙ ap Err (end-failed c.in-Err.end fault)));
+      (c.in-Err.is ∙ ap Err (end-failed c.in-Err.end fault))) tt;
   counts =
       answers-near _ _ (Claiming c.args.judged) c.stopped.result c.stopped.ensures (omega arith);
 }

@@ -2,6 +2,7 @@ use Rattle.std.proofs.Common.{refl, sym, ap, ◌∙◌, Err}
 use Rattle.acct_outside.specs.Calls.{lists}
 use Rattle.lock_steps.specs.Stands.{HasMade}
 use Rattle.suite_session.proofs.MetLemmas.{confirm-met}
+use Rattle.suite_session.proofs.LooksLemmas.{confirm-less}
 use Rattle.suite_session.proofs.TurnLemmas.{ended, got, unkept-left, turns, stops}
 use Rattle.suite_session.proofs.LeavingLemmas.{confirm-unkept}
 use Rattle.suite_session.proofs.LockingLemmas.{end-plain, end-stage, end-failed}
@@ -29,7 +30,7 @@ returns-in-Ok g c = record {
       (λ met none. absurd none)
       (confirm-stands before now c.args.runner.now c.args.claimed c.requires.1 c.requires.0
       c.in-Ok.confirmed c.in-Ok.ensures.call c.in-Ok.ensures.next)
-      (confirm-quiet c.in-Ok.confirmed));
+      (confirm-quiet c.in-Ok.confirmed) tt (confirm-less c.args.claimed c.in-Ok.confirmed));
   counts =
       let before = g.F.Folder.moment c.args.folder.now in
       let now = g.F.Folder.moment c.confirm.new.folder in
@@ -73,7 +74,7 @@ returns-in-Err g c = record {
       c.in-Err.ensures.call.shown))
       (sym (end-stage c.in-Err.end))
       (λ fault. c.confirm.ensures.faults.failed
-      (c.in-Err.is ∙ ap Err (end-failed c.in-Err.end fault)));
+      (c.in-Err.is ∙ ap Err (end-failed c.in-Err.end fault))) tt;
   counts =
       answers-listed (g.F.Folder.moment c.confirm.new.folder).told c.args.runner.now c.args.claimed
       _ _

@@ -2,6 +2,7 @@ use Rattle.std.proofs.Common.{refl, sym, ap, ◌∙◌, Err, arith}
 use Rattle.acct_outside.specs.Calls.{lists}
 use Rattle.suite_session.specs.Causes.{HasListedNone}
 use Rattle.suite_session.proofs.MetLemmas.{look-met}
+use Rattle.suite_session.proofs.LooksLemmas.{look-less}
 use Rattle.suite_session.proofs.TurnLemmas.{ended, got, unkept-left, turns, stops}
 use Rattle.suite_session.proofs.LeavingLemmas.{look-unkept}
 use Rattle.suite_session.proofs.LockingLemmas.{end-plain, end-stage, end-failed}
@@ -30,7 +31,8 @@ returns-in-Ok g c = record {
       (λ met none. absurd none)
       (look-stands before now c.args.runner.now c.args.looking c.requires.1 c.requires.0
       c.in-Ok.seen c.in-Ok.ensures.call c.in-Ok.ensures.next)
-      (look-quiet c.args.runner.now.asked.request c.in-Ok.seen));
+      (look-quiet c.args.runner.now.asked.request c.in-Ok.seen) tt
+      (look-less c.args.runner.now.asked.request c.args.looking c.in-Ok.seen));
   counts =
       rw c.after_look.ensures (look-calls c.args.runner.now.asked.request
       c.args.looking c.in-Ok.seen);
@@ -67,7 +69,7 @@ returns-in-Err g c = record {
       c.in-Err.ensures.call.shown))
       (sym (end-stage c.in-Err.end))
       (λ fault. c.look.ensures.faults.failed
-      (c.in-Err.is ∙ ap Err (end-failed c.in-Err.end fault)));
+      (c.in-Err.is ∙ ap Err (end-failed c.in-Err.end fault))) tt;
   counts =
       answers-near _ _ (Looking c.args.looking) c.stopped.result c.stopped.ensures (omega arith);
 }

@@ -3,6 +3,7 @@ use Rattle.acct_outside.specs.declared.Name.TheVariants.{Lock}
 use Rattle.acct_outside.specs.Calls.{reads}
 use Rattle.lock_steps.specs.Stands.{HasLooked}
 use Rattle.suite_session.proofs.MetLemmas.{read-met}
+use Rattle.suite_session.proofs.LooksLemmas.{read-less}
 use Rattle.suite_session.proofs.TurnLemmas.{ended, got, unkept-left, turns, stops}
 use Rattle.suite_session.proofs.LeavingLemmas.{read-unkept}
 use Rattle.suite_session.proofs.LockingLemmas.{end-plain, end-stage, end-failed}
@@ -32,7 +33,8 @@ returns-in-Ok g c = record {
       (read-stands before now c.args.runner.now c.args.seen c.requires.2 c.requires.0 c.requires.3
       c.in-Ok.told
       c.in-Ok.ensures.call c.in-Ok.ensures.next)
-      (read-quiet c.args.runner.now.asked.request c.in-Ok.told));
+      (read-quiet c.args.runner.now.asked.request c.in-Ok.told) tt
+      (read-less c.args.runner.now.asked.request c.args.seen c.in-Ok.told));
   counts =
       rw c.after_read.ensures (read-calls c.args.runner.now.asked.request c.args.seen c.in-Ok.told);
 }
@@ -68,7 +70,7 @@ returns-in-Err g c = record {
       c.in-Err.ensures.call.shown))
       (sym (end-stage c.in-Err.end))
       (λ fault. c.read.ensures.faults.failed
-      (c.in-Err.is ∙ ap Err (end-failed c.in-Err.end fault)));
+      (c.in-Err.is ∙ ap Err (end-failed c.in-Err.end fault))) tt;
   counts =
       answers-near _ _ (Reading c.args.seen) c.stopped.result c.stopped.ensures (omega arith);
 }

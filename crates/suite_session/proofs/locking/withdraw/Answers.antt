@@ -47,7 +47,8 @@ returns g c = record {
       (withdraw-unkept c.args.loser c.withdraw.ensures.call.answer c.withdraw.result
       c.withdraw.ensures.call.shown))
       (sym (end-stage c.withdraw.result))
-      (λ fault. c.withdraw.ensures.faults.failed (ap Err (end-failed c.withdraw.result fault)));
+      (λ fault. c.withdraw.ensures.faults.failed (ap Err (end-failed c.withdraw.result fault)))
+      tt;
   counts =
       answers-fewer _ _ c.stopped.result c.stopped.ensures _ (search (arith, rules)) refl;
 }

@@ -5,6 +5,8 @@ use Rattle.recovery.specs.States.{Mover, appended_once}
 use Rattle.recovery.specs.Stands.{HasStagedNext}
 use Rattle.recovery.proofs.NextLemmas.{moves-on}
 use Rattle.suite_session.specs.declared.state.State.TheVariants.{Moving}
+use Rattle.suite_session.proofs.LooksLemmas.{few-less}
+use Rattle.suite_session.proofs.StagingLemmas.{table-staged}
 use Rattle.suite_session.proofs.TurnLemmas.{may-step, goes-on, turns, faults}
 use Rattle.suite_session.proofs.CauseLemmas.{fault-outside}
 use Rattle.suite_session.proofs.RecoveringTurns.{some-next}
@@ -49,7 +51,9 @@ returns-in-Ok g c = record {
             moving.keeper.token c.requires.0 call tt _ (λ result stood. refl) shown.1
             (HasStagedNext c.in-Ok.moving) c.in-Ok.ensures.next,
       )
-      (λ fault. fault);
+      (λ fault. fault)
+      (table-staged c.in-Ok.moving moving.left shown.0 (ap (λ (one : Mover). one.left) is) shown.2)
+      (few-less (Moving moving) (Moving c.in-Ok.moving) tt refl);
   counts =
       let moving = c.args.moving in
       let some = some-left _ _ c.pieces.ensures c.if-pieces-eq0.false in

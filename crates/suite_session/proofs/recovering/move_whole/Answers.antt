@@ -4,6 +4,7 @@ use Rattle.recovery.specs.States.{Recoverer, moved_once}
 use Rattle.recovery.proofs.NextLemmas.{moves-whole}
 use Rattle.recovery.specs.Stands.{Recovers, HasStagedNext}
 use Rattle.suite_session.specs.declared.state.State.TheVariants.{Moving, Recovering}
+use Rattle.suite_session.proofs.LooksLemmas.{few-less}
 use Rattle.suite_session.proofs.TurnLemmas.{may-step, goes-on, turns, faults}
 use Rattle.suite_session.proofs.CauseLemmas.{fault-outside}
 use Rattle.suite_session.proofs.RecoveringTurns.{some-next}
@@ -45,7 +46,8 @@ returns-in-Ok g c = record {
             shown.1
             (Recovers c.in-Ok.recovering) c.in-Ok.ensures.next,
       )
-      (λ fault. fault);
+      (λ fault. fault) tt
+      (few-less (Moving c.args.moving) (Recovering c.in-Ok.recovering) tt refl);
   counts =
       let shown = some-next c.args.moving.left c.requires.stands.1 c.in-Ok.ensures.call in
       moved-calls c.args.moving c.in-Ok.recovering

@@ -3,6 +3,7 @@ use Rattle.acct_outside.specs.declared.Name.TheVariants.{Intent}
 use Rattle.acct_outside.specs.Calls.{reads}
 use Rattle.acct_outside.specs.declared.CommitStage.TheVariants.{Before}
 use Rattle.lock_steps.specs.Stands.{Keeps, KnowsAnything}
+use Rattle.suite_session.proofs.LooksLemmas.{intent-less, refused-less}
 use Rattle.suite_session.proofs.TurnLemmas.{may-step, turn-made, turns}
 use Rattle.suite_session.proofs.RecoveringTurns.{seen-stands, seen-quiet, refused-stands, refused-failed}
 use Rattle.suite_session.proofs.IntentMeeting.{intent-on, intent-ends}
@@ -34,7 +35,8 @@ returns-in-Ok g c = record {
       c.in-Ok.seen c.in-Ok.ensures.step.call.shown)
       (λ met none. absurd none)
       (seen-stands before now c.args.runner.now c.args.keeper c.requires.1 c.requires.0 c.in-Ok.seen
-      c.in-Ok.ensures.step.call c.in-Ok.ensures.step.next) (seen-quiet c.in-Ok.seen));
+      c.in-Ok.ensures.step.call c.in-Ok.ensures.step.next) (seen-quiet c.in-Ok.seen) tt
+      (intent-less c.args.keeper c.in-Ok.seen));
   counts =
       rw c.after_intent.ensures (intent-calls c.args.keeper c.in-Ok.ensures.step.call.answer
       c.in-Ok.seen
@@ -59,7 +61,9 @@ returns-in-Err g c = record {
       c.refused.result c.refused.ensures c.in-Err.ensures.step.call c.in-Err.ensures.refused)
       (λ told. c.read_intent.ensures.step.faults.failed (c.in-Err.is ∙ ap Err
       (refused-failed _ end c.refused.result c.refused.ensures c.args.keeper _
-      c.in-Err.ensures.step.call.shown told)));
+      c.in-Err.ensures.step.call.shown told))) tt
+      (refused-less c.args.runner.now.asked.request.tool end (ReadingIntent c.args.keeper)
+      c.refused.result c.refused.ensures);
   counts =
       refused-calls _ c.args.keeper c.in-Err.ensures.step.call.answer c.in-Err.end c.refused.result
       c.refused.ensures c.in-Err.ensures.step.call.shown;

@@ -6,6 +6,8 @@ use Rattle.lock_steps.specs.NextCall.{next_or}
 use Rattle.recovery.specs.States.{Mover, mover_of}
 use Rattle.recovery.specs.Stands.{Recovers, HasStagedNext}
 use Rattle.suite_session.specs.declared.state.State.TheVariants.{Recovering, Moving}
+use Rattle.suite_session.proofs.LooksLemmas.{few-less}
+use Rattle.suite_session.proofs.StagingLemmas.{table-staged}
 use Rattle.suite_session.proofs.TurnLemmas.{may-step, goes-on, turns, faults}
 use Rattle.suite_session.proofs.CauseLemmas.{fault-outside}
 use Rattle.suite_session.proofs.RecoveringTurns.{some-next}
@@ -51,7 +53,10 @@ returns-in-Ok g c = record {
             shown.1
             (HasStagedNext c.in-Ok.moving) c.in-Ok.ensures.next,
       )
-      (λ fault. fault);
+      (λ fault. fault)
+      (table-staged c.in-Ok.moving c.args.recovering.left shown.0
+      (ap (λ (one : Mover). one.left) is) shown.2)
+      (few-less (Recovering c.args.recovering) (Moving c.in-Ok.moving) tt refl);
   counts =
       let shown = some-next c.args.recovering.left
       (some-left _ _ c.left.ensures c.if-left-eq0.false) c.in-Ok.ensures.call in

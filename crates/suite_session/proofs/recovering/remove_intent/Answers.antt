@@ -7,6 +7,7 @@ use Rattle.lock_steps.specs.States.{Kept}
 use Rattle.lock_steps.specs.Stands.{Keeps, KnowsNoneYet}
 use Rattle.suite_session.specs.declared.state.State.TheVariants.{Recovering, Loading}
 use Rattle.commit_steps.specs.States.{start_of}
+use Rattle.suite_session.proofs.LooksLemmas.{few-less}
 use Rattle.suite_session.proofs.TurnLemmas.{may-step, goes-on, turns, faults}
 use Rattle.suite_session.proofs.CauseLemmas.{fault-outside}
 use Rattle.suite_session.proofs.RecoveringTurns.{starts-loading}
@@ -54,7 +55,8 @@ returns-in-Ok g c = record {
             c.in-Ok.ensures.call
             (Keeps c.in-Ok.keeper KnowsNoneYet) c.in-Ok.ensures.next),
       )
-      (λ fault. fault));
+      (λ fault. fault) tt
+      (few-less (Recovering c.args.recovering) (Loading (start_of c.in-Ok.keeper)) tt refl));
   counts =
       rw c.start.ensures (removed-calls c.args.recovering c.in-Ok.keeper
       (leads-on c.args.recovering.keeper before_commit _ c.in-Ok.keeper

@@ -5,6 +5,7 @@ use Rattle.lock_steps.specs.Watching.{HasGathered, next_name}
 use Rattle.suite_session.specs.declared.state.State.TheVariants.{Gathering}
 use Rattle.suite_session.proofs.CallsLemmas.{answers-fewer, some-left}
 use Rattle.suite_session.proofs.ReportReads.{gather-calls, gather-came, gather-on, gather-keeps, gather-quiet, gathers-next, read-faults, unread-input}
+use Rattle.suite_session.proofs.LooksLemmas.{gathers-less}
 use Rattle.suite_session.proofs.TurnLemmas.{goes-on, may-step, turns}
 use Rattle.suite_session.proofs.reporting.gather.Goals as goal
 
@@ -44,7 +45,9 @@ returns-in-Ok g c = record {
         c.requires.2,
         kept.1 ∙ c.requires.3,
       )
-      (λ fault. fault);
+      (λ fault. fault) tt
+      (gathers-less reading c.in-Ok.ensures.call.answer c.in-Ok.reading c.in-Ok.ensures.call.shown
+      some);
   counts =
       gather-calls c.args.reading c.in-Ok.ensures.call.answer c.in-Ok.reading
       c.in-Ok.ensures.call.shown (some-left _ _ c.left.ensures c.if-left-eq0.false);
@@ -65,7 +68,7 @@ returns-in-Err g c = record {
       c.in-Err.fault
       (gather-came reading c.in-Err.ensures.call.answer c.in-Err.fault
       c.in-Err.ensures.call.shown) c.failed.ensures
-      (λ is. c.read_next.ensures.faults.failed (c.in-Err.is ∙ ap Err is));
+      (λ is. c.read_next.ensures.faults.failed (c.in-Err.is ∙ ap Err is)) tt;
   counts =
       answers-fewer _ _ c.failed.result c.failed.ensures (Gathering c.args.reading) (omega arith)
       refl;

@@ -10,6 +10,7 @@ use Rattle.suite_session.proofs.LockingLemmas.{end-failed, end-plain, end-stage}
 use Rattle.suite_session.proofs.ReportMeeting.{outrun-ends, outrun-met, reported-tells}
 use Rattle.suite_session.proofs.ReportReads.{gathers-last}
 use Rattle.suite_session.proofs.ReportingTurns.{reported-calls, reported-quiet, reported-stands}
+use Rattle.suite_session.proofs.LooksLemmas.{reported-less}
 use Rattle.suite_session.proofs.TurnLemmas.{ended, got, may-step, stops, turns, unkept-left}
 use Rattle.suite_session.proofs.reporting.show.Goals as goal
 
@@ -41,7 +42,9 @@ returns-in-Ok g c = record {
       (reported-stands before now c.args.runner.now reading c.requires.stands.1
       c.requires.stands.0 c.requires.stands.2 c.requires.stands.3 c.in-Ok.shown c.is_small.ensures
       c.in-Ok.ensures.call c.in-Ok.ensures.next c.reported.result c.reported.ensures)
-      (reported-quiet c.args.runner.now c.in-Ok.shown c.reported.result c.reported.ensures);
+      (reported-quiet c.args.runner.now c.in-Ok.shown c.reported.result c.reported.ensures) tt
+      (reported-less c.args.runner.now c.in-Ok.shown (Gathering reading) c.reported.result
+      c.reported.ensures);
   counts =
       reported-calls c.args.runner.now c.args.reading c.in-Ok.shown c.reported.result
       c.reported.ensures;
@@ -74,7 +77,7 @@ returns-in-Err g c = record {
       c.in-Err.ensures.call.shown))
       (sym (end-stage c.in-Err.end))
       (λ fault. c.confirm.ensures.faults.failed
-      (c.in-Err.is ∙ ap Err (end-failed c.in-Err.end fault)));
+      (c.in-Err.is ∙ ap Err (end-failed c.in-Err.end fault))) tt;
   counts =
       answers-fewer _ _ c.stopped.result c.stopped.ensures (Gathering c.args.reading)
       (omega arith) refl;

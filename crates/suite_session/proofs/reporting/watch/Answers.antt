@@ -9,6 +9,7 @@ use Rattle.suite_session.specs.declared.state.State.TheVariants.{Watching, Gathe
 use Rattle.suite_session.specs.Runner.{Runner}
 use Rattle.suite_session.proofs.CallsLemmas.{answers-fewer}
 use Rattle.suite_session.proofs.ReportReads.{read-faults, watch-calls, watch-came, watch-keeps, watch-on, watch-quiet}
+use Rattle.suite_session.proofs.LooksLemmas.{watches-less}
 use Rattle.suite_session.proofs.TurnLemmas.{goes-on, may-step, turns}
 use Rattle.suite_session.proofs.reporting.watch.Goals as goal
 
@@ -40,7 +41,9 @@ returns-in-Ok g c = record {
         kept.1 ∙ (c.read_tables.ensures
             ∙ ap (λ (runner : Runner). read_tables runner.asked.request) c.runner.view_is),
       )
-      (λ fault. fault);
+      (λ fault. fault) tt
+      (watches-less c.args.watcher _ c.in-Ok.ensures.call.answer c.in-Ok.reading
+      c.in-Ok.ensures.call.shown);
   counts = watch-calls c.args.watcher _ c.in-Ok.ensures.call.answer c.in-Ok.reading
       c.in-Ok.ensures.call.shown;
 }
@@ -57,7 +60,7 @@ returns-in-Err g c = record {
       (Watching c.args.watcher) c.failed.result refl (λ met none. none) c.in-Err.fault
       (watch-came c.args.watcher _ c.in-Err.ensures.call.answer c.in-Err.fault
       c.in-Err.ensures.call.shown) c.failed.ensures
-      (λ is. c.read_intent.ensures.faults.failed (c.in-Err.is ∙ ap Err is));
+      (λ is. c.read_intent.ensures.faults.failed (c.in-Err.is ∙ ap Err is)) tt;
   counts =
       answers-fewer _ _ c.failed.result c.failed.ensures (Watching c.args.watcher) (omega arith)
       refl;
