@@ -2,8 +2,9 @@
 -- where its tool decided, and backups of what it changed; and a report the folder as it was
 -- (`leaves-alone`).
 -- Way: what it has left by its own events (`HasLeft`, `BackedUpChanges`) is so in the folder, as nobody
--- else touched that (AloneLocks, AloneBackups).
-use Rattle.std.proofs.Common.{◌≡◌, refl, sym, ap, ◌∙◌, [], ◌∷◌, ℕ, true, false, Option, Some, None}
+-- else touched that (AloneLocks, AloneBackups, AloneStaging).
+use Rattle.std.proofs.Common.{◌≡◌, inl, inr, refl, sym, ap, subst, ◌∙◌, [], ◌∷◌, ℕ, true, false, Option, Some, None}
+use Rattle.acct_outside.specs.declared.CommitStage.TheVariants.{Before}
 use Rattle.acct_outside.specs.declared.Name.TheVariants.{Table, Defs}
 use Rattle.acct_outside.specs.Tokens.{Token}
 use Rattle.acct_outside.specs.Folder.{Folder}
@@ -18,19 +19,22 @@ use Rattle.suite_rules.specs.Lawful.{Lawful}
 use Rattle.suite_rules.proofs.Once.{committed-once}
 use Rattle.suite_answers.specs.declared.cause.Which.TheVariants.{File}
 use Rattle.suite_answers.specs.declared.cause.Cause.{Cause}
-use Rattle.suite_answers.specs.declared.cause.Cause.TheVariants.{Changed, Same, Refused, RefusedLine, NoTable, BadSetting, TooLarge}
+use Rattle.suite_answers.specs.declared.cause.Cause.TheVariants.{Changed, Same, Refused, RefusedLine, NoTable, BadSetting, TooLarge, DiskFault, OutputFault, Memory}
 use Rattle.suite_answers.specs.declared.answer.Answer.{Answer}
 use Rattle.suite_answers.specs.Reasons.{stage_of}
 use Rattle.suite_session.specs.Runner.{Question}
 use Rattle.suite_session.specs.Backing.{BackedUpChanges}
 use Rattle.suite_session.specs.Deeds.{AreOfTools}
 use Rattle.suite_session.specs.Reports.{RunsFree}
+use Rattle.suite_session.specs.Staging.{HasMovedAll}
 use Rattle.suite_session.specs.Stands.{HasLeft, IsDecided, IsStopped}
+use Rattle.suite_session.specs.Telling.{DropsNothing, Tells}
 use Rattle.suite_session.proofs.FreeLemmas.{free-uncalled}
 use Rattle.suite_course.specs.Alone.{IsAlone, Leaves}
 use Rattle.suite_course.specs.Shows.{IsShownAt}
 use Rattle.suite_course.proofs.AloneLocks.{alone-lock, alone-intent-none}
 use Rattle.suite_course.proofs.AloneBackups.{alone-backups}
+use Rattle.suite_course.proofs.AloneStaging.{HasCome, alone-staging}
 use Rattle.suite_course.proofs.ReportLemmas.{folder-stays}
 
 -- a tool's answer isn't stopped
@@ -44,6 +48,14 @@ decided-quiet (BadSetting line) decided stopped = stopped
 decided-quiet (TooLarge (File (Table table))) decided stopped = stopped
 decided-quiet (TooLarge (File Defs)) decided stopped = stopped
 decided-quiet cause decided stopped = absurd decided
+
+-- what tells a fault of the folder, or what comes later, was stopped
+stops-later : (cause : Cause) → Tells cause (DiskFault Before) → IsStopped cause
+stops-later cause (inl is) = subst IsStopped (sym is) tt
+stops-later (DiskFault stage) (inr later) = tt
+stops-later (OutputFault stage) (inr later) = tt
+stops-later (Memory stage) (inr later) = tt
+stops-later cause (inr later) = absurd later
 
 module _ (deeds : SuiteDeeds) (asked : Question) (first : Folder) (past : Past) (token : Token)
     (given : Answer) (lawful : Lawful deeds first past.history) where
@@ -91,12 +103,17 @@ module _ (deeds : SuiteDeeds) (asked : Question) (first : Folder) (past : Past) 
       IsShownAt deeds asked first past.history token given cause →
       ((IsStopped cause → ⊥) → HasLeft token cause past) → BackedUpChanges token past.history →
       (is_report asked.request ≡ true → RunsFree token past.history) →
+      DropsNothing token cause past.history → HasCome token past.history →
+      ((IsStopped cause → ⊥) → HasMovedAll (standing token past.history)) →
       Leaves asked first old past.history token cause
-  leaves-alone ours old alone cause commits shown left backed free = record {
+  leaves-alone ours old alone cause commits shown left backed free drops come moved = record {
     report = λ is. folder-stays deeds first past.history lawful asked token
         (free-uncalled token past.history (free is).free) old alone;
     lock = λ quiet number kept. alone-lock deeds first token old past.history alone lawful number
         ((left quiet).freed number kept);
+    staging = λ quiet. alone-staging deeds first token old past.history alone lawful
+        (λ fails. quiet (stops-later cause
+        (drops [] past.history refl (DiskFault Before) tt fails).0)) come (moved quiet);
     intent = λ no_report decided.
         let kept = was-keeper no_report cause decided commits shown in
         let leaves = left (decided-quiet cause decided) in

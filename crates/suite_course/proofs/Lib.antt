@@ -2,6 +2,7 @@ mod AloneBackups
 mod AloneFreed
 mod AloneLemmas
 mod AloneLocks
+mod AloneStaging
 mod AloneStays
 mod AloneSteps
 mod BackupLemmas

@@ -132,18 +132,22 @@ module _ (asked : Question) (entry now : Moment) where
       shows = λ deeds ours others lawful. answered-shows runner past same answered deeds was.first
           (stays deeds ours others lawful);
       drops_nothing = answered.ended.drops_nothing;
+      looks_once = answered.ended.looked;
       free_reports = λ is. reports-freely runner given past.history
           (free-of runner past same answered is)
           (subst (λ (one : Question). Says one given given.outcome.cause) (sym same) says)
           answered.ended.due.shown answered.ended.drops_nothing;
       left = λ quiet. let left = answered.ended.left quiet in
           record { freed = left.freed; clean = left.clean };
+      moved = answered.ended.moved;
       leaves = λ deeds ours others lawful earlier alone.
           let lawful_now = stays deeds ours others lawful in
           leaves-alone deeds asked was.first past runner.token given lawful_now ours earlier alone
           given.outcome.cause answered.ended.due.commits
           (answered-shows runner past same answered deeds was.first lawful_now).shown
-          answered.ended.left answered.ended.backed (free-of runner past same answered);
+          answered.ended.left answered.ended.backed (free-of runner past same answered)
+          answered.ended.drops_nothing (inr (_, answered.ended.before, answered.ended.last))
+          answered.ended.moved;
     }
 
     -- it has run, or its begin gave no token

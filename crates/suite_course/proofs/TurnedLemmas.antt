@@ -3,11 +3,14 @@
 -- Way: what its own events show a lawful history shows of its place (PlaceLemmas), and where it was alone
 -- of the folder as it stood (CompleteLemmas, LeavesLemmas).
 use Rattle.std.proofs.Common.{◌⊎◌, inl, inr, refl, subst, true, ◌≡◌, Option, Some, None, IfSome, arith}
+use Rattle.acct_outside.specs.Contract.{RunsIn}
+use Rattle.acct_outside.specs.Others.{Admission}
 use Rattle.acct_outside.specs.Tokens.{Token}
 use Rattle.acct_outside.specs.History.{History}
 use Rattle.acct_outside.specs.Moment.{Past, Moment}
 use Rattle.suite_rules.specs.Deeds.{SuiteDeeds}
 use Rattle.suite_rules.specs.Lawful.{Lawful}
+use Rattle.suite_rules.specs.Standing.{standing}
 use Rattle.suite_rules.proofs.Cut.{lawful-prefix}
 use Rattle.suite_rules.proofs.Settles.{lawful-settles}
 use Rattle.suite_answers.specs.declared.answer.Answer.{Answer}
@@ -24,11 +27,15 @@ use Rattle.suite_session.specs.Bound.{HasCalled, HasCalledFree, IsWithin}
 use Rattle.suite_session.specs.Counts.{CountsLower}
 use Rattle.suite_session.specs.Deeds.{AreOfTools}
 use Rattle.suite_session.specs.Due.{IsDue}
+use Rattle.suite_session.specs.Looks.{LooksOnce}
+use Rattle.suite_session.specs.Staging.{HasMovedAll}
 use Rattle.suite_session.specs.Stands.{HasLeft, IsStopped}
 use Rattle.suite_session.specs.Telling.{DropsNothing}
+use Rattle.suite_session.proofs.LooksLemmas.{looked-once}
 use Rattle.suite_session.proofs.MetLemmas.{told-as}
 use Rattle.suite_session.proofs.StreamLemmas.{left-given}
 use Rattle.suite_course.specs.Turned.{AnswersKeepPromises, KeepsPromises, Promises}
+use Rattle.suite_course.proofs.AloneStaging.{HasCome}
 use Rattle.suite_course.proofs.CompleteLemmas.{answers-as}
 use Rattle.suite_course.proofs.FreeLemmas.{reports-freely}
 use Rattle.suite_course.proofs.LeavesLemmas.{leaves-alone}
@@ -65,8 +72,11 @@ module _ (deeds : SuiteDeeds) (ours : AreOfTools deeds) where
         DropsNothing runner.token answer.outcome.cause past.history →
         IsWithin runner.token past.history → BackedUpChanges runner.token past.history →
         (is_report runner.asked.request ≡ true → RunsFree runner.token past.history) →
+        LooksOnce runner.token past.history → HasCome runner.token past.history →
+        ((IsStopped answer.outcome.cause → ⊥) →
+        HasMovedAll (standing runner.token past.history)) →
         Promises deeds runner answer past
-    promises-of past lawful says due left drops within backed free =
+    promises-of past lawful says due left drops within backed free looks come moved =
         let shows = shows-at deeds past.first past.history lawful runner.asked runner answer refl
         due.asked free due.commits due.shown in
         record {
@@ -76,31 +86,36 @@ module _ (deeds : SuiteDeeds) (ours : AreOfTools deeds) where
               (subst (Lawful deeds past.first) parts lawful)) table;
           shows = shows;
           drops_nothing = drops;
+          looks_once = looks;
           within = within;
           free_reports = λ is.
               reports-freely runner answer past.history (free is) says due.shown drops;
           left = left;
+          moved = moved;
           leaves = λ old alone. leaves-alone deeds runner.asked past.first past runner.token
               answer lawful ours old alone answer.outcome.cause due.commits shows.shown left backed
-              free;
+              free drops come moved;
           complete = λ old alone opened inside. answers-as deeds runner.asked past.first old
               past.history runner.token lawful alone opened answer answer.outcome.cause refl
               due.commits says inside shows.shown;
         }
 
     -- of one that a session has to give, where the folder tells its history
-    promises-told : Says runner.asked answer answer.outcome.cause → (told : Option Past) →
+    promises-told : Says runner.asked answer answer.outcome.cause → (admits : Admission)
+        (told : Option Past) → IfSome told (RunsIn admits runner.token) →
         IfSome told (IsDue runner answer) →
         ((IsStopped answer.outcome.cause → ⊥) →
         IfSome told (HasLeft runner.token answer.outcome.cause)) →
         IfSome told (CameTo runner (Answering answer)) →
         IfSome told (λ past. Lawful deeds past.first past.history →
         Promises deeds runner answer past)
-    promises-told says None due left came = tt
-    promises-told says (Some past) due left came =
+    promises-told says admits None may due left came = tt
+    promises-told says admits (Some past) may due left came =
         λ lawful. promises-of past lawful says due left came.remembers
         (called-within runner.token answer past.history came.called) came.backed
         (λ is. called-free runner.token answer past.history (came.free is))
+        (looked-once runner.token (Answering answer) past.history came.looked) (inl may.runs)
+        came.staged
 
   -- of none that has no answer
   nothing-promised : (told : Option Past) →
@@ -129,15 +144,16 @@ module _ (deeds : SuiteDeeds) (ours : AreOfTools deeds) where
         texted = had.texted;
         promises = promises lawful;
       })
-      (promises-told runner had.given had.may.gives.says now.told had.may.gives.due had.may.left
-      had.came)
+      (promises-told runner had.given had.may.gives.says now.admits now.told had.may.may_answer
+      had.may.gives.due had.may.left had.came)
   keeps-promises now (Over runner answer) belongs = told-as now.told (λ past ended lawful. record {
     given = belongs.given;
     put = belongs.put;
     left = belongs.left;
     texted = belongs.texted;
     promises = promises-of runner belongs.given past lawful belongs.says ended.due ended.left
-        ended.drops_nothing ended.within ended.backed ended.free;
+        ended.drops_nothing ended.within ended.backed ended.free ended.looked
+        (inr (_, ended.before, ended.last)) ended.moved;
   }) belongs.ended
   keeps-promises now (Unbegun tool answer) belongs = untold-promised now.told belongs
   keeps-promises now session belongs = nothing-promised now.told

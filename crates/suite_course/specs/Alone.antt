@@ -4,7 +4,9 @@ use Rattle.std.specs.Prelude.{◌≡◌, ◌≢◌, ◌⊎◌, ◌∷◌, ◌++�
 use Rattle.std.specs.List.{AllByRecursion}
 use Rattle.acct_text.specs.declared.Tab.{Tab}
 use Rattle.acct_outside.specs.declared.CommitStage.{CommitStage}
+use Rattle.acct_outside.specs.declared.Name.{Name}
 use Rattle.acct_outside.specs.declared.Name.TheVariants.{Backup, Intent, Lock}
+use Rattle.acct_outside.specs.Names.{is_staging}
 use Rattle.acct_outside.specs.Tokens.{Token, free_text}
 use Rattle.acct_outside.specs.Folder.{Folder, settings_file}
 use Rattle.acct_outside.specs.History.{History, after, own_events}
@@ -59,14 +61,21 @@ pub record IsBackedUp (before now : Folder) (table : Tab) : Type 0 where
   pub unchanged : settled now table ≡ settled before table →
       now.file (Backup table) ≡ before.file (Backup table)
 
+-- each staging name is absent, or as it stood before
+abbrev pub IsUnstaged : Folder → Folder → Type 0
+IsUnstaged before now = (name : Name) → is_staging name ≡ true →
+    (now.file name ≡ None) ⊎ (now.file name ≡ before.file name)
+
 -- What a session that answered with this cause leaves, where it was alone since an earlier moment: a
--- report the folder as it was; any other its own lock, which is free, where it kept one, no intent, where
--- its tool decided, and backups of what it changed. A fault or want of memory may leave more.
+-- report the folder as it was; any other its own lock, which is free, where it kept one, nothing at a
+-- staging name that didn't stand there before, no intent, where its tool decided, and backups of what it
+-- changed. A fault or want of memory may leave more.
 pub record Leaves (asked : Question) (first : Folder) (old new : History) (token : Token)
     (cause : Cause) : Type 0 where
   pub report : is_report asked.request ≡ true → after first new ≡ after first old
   pub lock : (IsStopped cause → ⊥) → (number : ℕ) →
       kept_number (standing token new).own ≡ Some number → IsOnlyLock (after first new) number
+  pub staging : (IsStopped cause → ⊥) → IsUnstaged (after first old) (after first new)
   pub intent : is_report asked.request ≡ false → IsDecided cause →
       (after first new).file Intent ≡ None
   pub backups : cause ≡ Changed → (table : Tab) →

@@ -4,6 +4,7 @@ use Rattle.acct_outside.specs.declared.streams.SinkFault.{SinkFault}
 use Rattle.acct_outside.specs.History.{History, after}
 use Rattle.acct_outside.specs.Moment.{Past, Moment}
 use Rattle.suite_rules.specs.Deeds.{SuiteDeeds}
+use Rattle.suite_rules.specs.Standing.{standing}
 use Rattle.suite_rules.specs.Lawful.{Lawful}
 use Rattle.suite_answers.specs.declared.answer.Answer.{Answer}
 use Rattle.suite_session.specs.declared.state.State.TheVariants.{Answering}
@@ -14,7 +15,9 @@ use Rattle.suite_session.specs.Answers.{Says, after_streams}
 use Rattle.suite_session.specs.Belongs.{Belongs, HasNoToken}
 use Rattle.suite_session.specs.Bound.{IsWithin}
 use Rattle.suite_session.specs.Deeds.{AreOfTools}
+use Rattle.suite_session.specs.Looks.{LooksOnce}
 use Rattle.suite_session.specs.Session.{HasText}
+use Rattle.suite_session.specs.Staging.{HasMovedAll}
 use Rattle.suite_session.specs.Stands.{HasLeft, IsDiskFault, IsStopped}
 use Rattle.suite_session.specs.Telling.{DropsNothing}
 use Rattle.suite_course.specs.Open.{StandsOpen}
@@ -24,20 +27,24 @@ use Rattle.suite_course.specs.Shows.{IfReportsFreely, IsAlwaysSettled, Shows}
 -- What a lawful history shows of a session that has this answer to give, or gave it. The answer says what
 -- its cause says: the status, and both texts. The settled files are the fold after each part of the
 -- history; what the answer tells is so, also how far the commit came; of all that the session has met it
--- drops nothing; its calls are within the bound, and those of a report change no name. Unless it was
--- stopped it has freed its lock, and with an answer of its tool it knows that no intent stands. Where it was
--- alone since an earlier moment it leaves the locks, the intent and the backups as it must; and where
--- nothing stood in its way, and the folder didn't fail, its answer is the tool's, or there was no memory.
+-- drops nothing, and it looked at nothing again; its calls are within the bound, and those of a report
+-- change no name. Unless it was stopped it has freed its lock, has moved all that it staged, and with an
+-- answer of its tool it knows that no intent stands. Where it was alone since an earlier moment it leaves
+-- the locks, the staging names, the intent and the backups as it must; and where nothing stood in its way,
+-- and the folder didn't fail, its answer is the tool's, or there was no memory.
 pub record Promises (deeds : SuiteDeeds) (runner : Runner) (answer : Answer) (past : Past)
     : Type 0 where
   pub says : Says runner.asked answer answer.outcome.cause
   pub settles : IsAlwaysSettled deeds past.first past.history
   pub shows : Shows deeds runner.asked past.first past.history runner.token answer
   pub drops_nothing : DropsNothing runner.token answer.outcome.cause past.history
+  pub looks_once : LooksOnce runner.token past.history
   pub within : IsWithin runner.token past.history
   pub free_reports : IfReportsFreely runner.asked runner.token answer.outcome.cause past.history
   pub left : (IsStopped answer.outcome.cause → ⊥) →
       HasLeft runner.token answer.outcome.cause past
+  pub moved : (IsStopped answer.outcome.cause → ⊥) →
+      HasMovedAll (standing runner.token past.history)
   pub leaves : (old : History) → IsAlone runner.token old past.history →
       Leaves runner.asked past.first old past.history runner.token answer.outcome.cause
   pub complete : (old : History) → IsAlone runner.token old past.history →
