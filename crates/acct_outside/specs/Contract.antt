@@ -1,7 +1,8 @@
 -- What each call of a folder does to the history that it tells: events of other sessions that it
--- admits, and then the call's own event.
+-- admits, and then the call's own event; and to its journal, which has each call.
 use Rattle.std.specs.Prelude.{◌≡◌, ⊤, ℕ, ◌≤◌, Bool, true, false, List, [], ◌∷◌, length, Option, None, Some, IfSome, Result, Ok, Err}
 use Rattle.std.specs.Global.{Vec}
+use Rattle.acct_text.specs.Bytes.{Bytes}
 use Rattle.acct_outside.specs.declared.Name.{Name}
 use Rattle.acct_outside.specs.declared.Name.TheVariants.{Lock}
 use Rattle.acct_outside.specs.declared.FolderFault.{FolderFault}
@@ -17,7 +18,8 @@ use Rattle.acct_outside.specs.Life.{Life, life, unbegun, is_running}
 use Rattle.acct_outside.specs.Gives.{GivesResult}
 use Rattle.acct_outside.specs.Others.{Admission, AdmitsNoneOf, ByOthers, ByOthersThen}
 use Rattle.acct_outside.specs.Faults.{CountsFailure}
-use Rattle.acct_outside.specs.Moment.{Past, Moment, Narrows}
+use Rattle.acct_outside.specs.Journal.{Entry, enters, listing_reply, makes, plain_reply, reply_of}
+use Rattle.acct_outside.specs.Moment.{Past, Moment, Narrows, Notes}
 
 -- the number of a lock
 pub record IsLockNumber (n : ℕ) : Type 0 where
@@ -97,6 +99,10 @@ Tells before now token call result =
     TellsCall before.admits token call
     (λ between r. GivesResult (after first between) between token call r) result old new)
 
+-- the journal has the call with what it came to
+abbrev pub NotesCall : Moment → Moment → (call : Call) → Result (Answer call) FolderFault → Type 0
+NotesCall before now call result = Notes before now (makes call (reply_of call result))
+
 -- a read gives what stands there up to its limit, which for an event of a lawful history is the
 -- limit of the name
 abbrev pub GivesRead : ℕ → Folder → (name : Name) → CallResult Found → Type 0
@@ -148,35 +154,40 @@ locks_result (Ok numbers) = Ok numbers.items
 locks_result (Err fault) = Err fault
 
 -- The folder goes from one moment to the next: this is what its history shows, it admits no more
--- than before, and it tells a failure only where its count rose.
-pub record Passes {T : Type 0} (before now : Moment) (Told : Type 0) (result : Result T FolderFault)
-    : Type 0 where
+-- than before, it tells a failure only where its count rose, and its journal has this entry more.
+pub record Passes {T : Type 0} (before now : Moment) (Told : Type 0) (entry : Entry)
+    (result : Result T FolderFault) : Type 0 where
   pub told : Told
   pub narrows : Narrows before.admits now.admits
   pub faults : CountsFailure Failed before.faults now.faults result
+  pub noted : Notes before now entry
 
 -- with nothing new in its history
-abbrev pub EntersFolder : Moment → Moment → Result (Unit {0}) FolderFault → Type 0
-EntersFolder before now result = Passes before now (now.told ≡ before.told) result
+abbrev pub EntersFolder : Moment → Moment → Bytes → Result (Unit {0}) FolderFault → Type 0
+EntersFolder before now prefix result =
+    Passes before now (now.told ≡ before.told) (enters prefix (plain_reply result)) result
 
 -- with the begin of a session
 abbrev pub BeginsSession : Moment → Moment → Command → Result Token FolderFault → Type 0
 BeginsSession before now command result =
     Passes before now (WhereTold before.told now.told (TellsBegin before.admits command result))
-    result
+    (makes (begins command) (plain_reply result)) result
 
 -- with the listing of a session
 abbrev pub ListsLocks : Moment → Moment → Token → Result (Vec ℕ) FolderFault → Type 0
 ListsLocks before now token result =
-    Passes before now (Tells before now token lists (locks_result result)) result
+    Passes before now (Tells before now token lists (locks_result result))
+    (makes lists (listing_reply (locks_result result))) result
 
 -- with the read of a session
 abbrev pub ReadsFolder : Moment → Moment → Token → Name → ℕ → Result Reading FolderFault → Type 0
 ReadsFolder before now token name limit result =
-    Passes before now (TellsRead before now token name limit result) result
+    Passes before now (TellsRead before now token name limit result)
+    (makes (reads name) (plain_reply result)) result
 
 -- with another call of a session
 abbrev pub CallsFolder : Moment → Moment → Token → (call : Call)
     → Result (Answer call) FolderFault → Type 0
 CallsFolder before now token call result =
-    Passes before now (Tells before now token call result) result
+    Passes before now (Tells before now token call result) (makes call (reply_of call result))
+    result

@@ -8,6 +8,8 @@ pub mod Life
 pub mod Gives
 pub mod Others
 pub mod Faults
+pub mod Journal
+pub mod Noted
 pub mod Moment
 pub mod Contract
 pub mod NamedCalls

@@ -12,16 +12,17 @@ use acct_text::{Bytes, Word};
 /// It may tell its history: then each call but `enter` and `faults` extends it by events of other
 /// sessions that the folder admits, and then by its own. Each call answers `Failed` only where the
 /// count of faults rose, and may then have happened or not. At `Memory` the call changed nothing and
-/// has no event.
+/// has no event. Each call but `faults` is noted in the folder's journal, whatever it came to.
 pub trait Folder {
     /// What the folder tells of itself: the history, where it tells one, which event of another
-    /// session may come next, and how often it has failed.
+    /// session may come next, how often it has failed, and what it was asked.
     ghost moment: { Self → Moment };
 
-    /// Names the folder. It answers `Memory` alone.
+    /// Names the folder by the prefix, for all calls from then on. It answers `Memory` alone, and then
+    /// the folder has the name that it had.
     fn enter(&mut self, prefix: &Bytes) -> Result<(), FolderFault>
         ensures memory { ¬ (IsErrOf result FolderFault.Failed) }
-        ensures call { EntersFolder (moment self.old) (moment self.new) result };
+        ensures call { EntersFolder (moment self.old) (moment self.new) prefix.now result };
 
     /// Begins a session, and gives it a token that no earlier begin gave.
     fn begin(&mut self, words: &[Word], input: &Bytes, day: u32) -> Result<Token, FolderFault>

@@ -1,11 +1,12 @@
 //! The outside of the suite: the folder of the account files with its lock, the streams and the clock.
 //!
 //! `Folder` is what a session may do to the files beside other sessions: each call is one event of a
-//! history, if the folder tells one. What meets these traits stands above: `memory_folder` in memory,
-//! `real_folder` on a disk.
+//! history, if the folder tells one, and an entry of its journal. What meets these traits stands above:
+//! `memory_folder` in memory, `real_folder` on a disk.
 #![tactic(auto)]
 
 mod folder;
+mod journal;
 mod limits;
 mod pieces;
 mod streams;
@@ -13,6 +14,7 @@ mod token;
 
 use acct_text::{Bytes, Tab};
 pub use folder::Folder;
+pub use journal::{Ask, Journal};
 pub use limits::{GREATEST_LOCK, INTENT_LIMIT, LOCK_LIMIT};
 pub use pieces::{PIECE_LIMIT, piece_at, piece_count, pieces_join};
 use std::alloc::AllocError;
