@@ -10,7 +10,8 @@ use Rattle.acct_outside.specs.Calls.{Call, Answer}
 use Rattle.acct_outside.specs.Life.{is_running}
 use Rattle.acct_outside.specs.Others.{Admission}
 use Rattle.acct_outside.specs.Faults.{next_count, HasRisen, CountsEach}
-use Rattle.acct_outside.specs.Moment.{Past, Moment}
+use Rattle.acct_outside.specs.Journal.{Entry}
+use Rattle.acct_outside.specs.Moment.{Past, Moment, Notes}
 use Rattle.acct_outside.specs.Contract.{Tells}
 use Rattle.memory_folder.specs.Logged.{past_in, with_event, folder_after}
 use Rattle.acct_outside.specs.declared.Call.{Call as FolderCall}
@@ -36,10 +37,22 @@ calls_of folder = folder.mishaps.calls
 abbrev pub faults_of : MemoryFolder → ℕ
 faults_of folder = folder.mishaps.faults
 
--- what it tells of itself: its history and its count, and no events of others
+-- what it was asked
+abbrev pub journal_of : MemoryFolder → List Entry
+journal_of folder = folder.journal.entries
+
+-- what it tells of itself: its history, its count and its journal, and no events of others
 abbrev pub moment_of : MemoryFolder → Moment
-moment_of folder =
-    record { admits = no_others; told = Some (past_of folder); faults = faults_of folder }
+moment_of folder = record {
+  admits = no_others;
+  told = Some (past_of folder);
+  faults = faults_of folder;
+  journal = journal_of folder;
+}
+
+-- its journal has this entry more
+abbrev pub NotesIn : MemoryFolder → MemoryFolder → Entry → Type 0
+NotesIn old new entry = Notes (moment_of old) (moment_of new) entry
 
 -- which of its calls are to fail
 abbrev pub plan_of : MemoryFolder → List Mishap

@@ -1,5 +1,5 @@
 // A folder in memory, which tells its history: its files and events, the tokens that it gives and
-// tells alive, and the calls that are to fail. Its calls are in memory_calls.rt.
+// tells alive, the calls that are to fail, and what it was asked. Its calls are in memory_calls.rt.
 ghost use Rattle.std.specs.Prelude.{◌≡◌, ◌↔◌, [], Some, None, All, IfOk, IfErr, IsTrue, OnOk, OnErr, false, true};
 ghost use Rattle.std.specs.Option.{option_copied};
 ghost use Rattle.acct_outside.specs.Folder.{IsFolder};
@@ -18,7 +18,7 @@ use crate::event::{Answer, Command, Outcome};
 use crate::log::Log;
 use crate::mishap::{Mishap, Mishaps};
 use crate::tokens::{is_among, numbered_token};
-use acct_outside::{Call, FolderFault, Name, Token, Verdict};
+use acct_outside::{Call, FolderFault, Journal, Name, Token, Verdict};
 use acct_text::Bytes;
 use std::alloc::{AllocError, Global};
 
@@ -31,11 +31,13 @@ pub struct MemoryFolder {
     pub(crate) log: Log,
     pub(crate) alive: Vec<Token>,
     pub(crate) mishaps: Mishaps,
+    pub(crate) journal: Journal,
 }
 
 impl MemoryFolder {
+    ghost use Rattle.acct_outside.specs.Journal.{Settles};
     ghost use Rattle.memory_folder.specs.Logged.{past_in, with_event, folder_after};
-    ghost use Rattle.memory_folder.specs.Memory.{CountsFault, FailsAsPlanned, FailsWith, IsUncounted, Runs, TellsAct, TellsFault, alive_of, calls_of, faults_of, past_of, plan_of};
+    ghost use Rattle.memory_folder.specs.Memory.{CountsFault, FailsAsPlanned, FailsWith, IsUncounted, Runs, TellsAct, TellsFault, alive_of, calls_of, faults_of, journal_of, past_of, plan_of};
     ghost use Rattle.memory_folder.specs.NewTokens.{IsFirstUnused, IsUnused};
 
     /// A folder with these files, with tokens of outsiders that it tells alive, and with calls that
@@ -54,6 +56,7 @@ impl MemoryFolder {
         ensures calls { IfOk result (λ folder. calls_of folder ≡ 0) }
         ensures plan { IfOk result (λ folder. plan_of folder ≡ plan.items) }
         ensures alive { IfOk result (λ folder. alive_of folder ≡ alive.items) }
+        ensures journal { IfOk result (λ folder. journal_of folder ≡ []) }
     {
         Ok(MemoryFolder {
             alloc,
@@ -64,6 +67,7 @@ impl MemoryFolder {
                 calls: 0,
                 faults: 0,
             },
+            journal: Journal::new(),
         })
     }
 
@@ -96,6 +100,7 @@ impl MemoryFolder {
         ensures err { OnErr result (past_of self.new ≡ past_of self.old) }
         ensures faults { faults_of self.new ≡ faults_of self.old }
         ensures counts { IsUncounted self.old self.new }
+        ensures journal { journal_of self.new ≡ journal_of self.old }
     {
         let effect = self.log.store.actual(&call, effect);
         self.log.record(self.alloc, by, call, Outcome::Died(effect))
@@ -113,6 +118,7 @@ impl MemoryFolder {
         ensures each { CountsEach FolderFault.Failed (faults_of self.old)
             (faults_of self.new) result }
         ensures counts { IsUncounted self.old self.new }
+        ensures journal { journal_of self.new ≡ journal_of self.old }
     {
         match self.due(&call) {
             Ok(None) => Ok(call),
@@ -141,6 +147,7 @@ impl MemoryFolder {
             → FailsWith self.old self.new by.now (call_of call) effect }
         ensures faults { CountsFault self.old self.new result }
         ensures counts { IsUncounted self.old self.new }
+        ensures journal { journal_of self.new ≡ journal_of self.old }
     {
         let effect = self.log.store.actual(&call, effect);
         match self
@@ -162,6 +169,7 @@ impl MemoryFolder {
         ensures memory { result ≡ FolderFault.Memory → past_of self.new ≡ past_of self.old }
         ensures faults { CountsFault self.old self.new result }
         ensures counts { IsUncounted self.old self.new }
+        ensures journal { journal_of self.new ≡ journal_of self.old }
     {
         match self.log.record_failed_begin(command) {
             Ok(()) => {
@@ -172,7 +180,7 @@ impl MemoryFolder {
         }
     }
 
-    // Begins a session with the first token that is unused.
+    // Begins a session with the first token that is unused, and notes that this was done.
     pub(crate) fn start(&mut self, command: Command) -> Result<Token, FolderFault>
         ensures ok { IfOk result (λ token. past_of self.new
             ≡ with_event (begin_event (Some token) (command_of command)) (past_of self.old)) }
@@ -182,14 +190,16 @@ impl MemoryFolder {
         ensures same { OnErr result (past_of self.new ≡ past_of self.old) }
         ensures faults { faults_of self.new ≡ faults_of self.old }
         ensures counts { IsUncounted self.old self.new }
+        ensures settles { Settles (journal_of self.old) (journal_of self.new) result }
     {
         let given = self.fresh()?;
         let token = given.copy()?;
         self.log.begin(given, command)?;
+        self.journal.done();
         Ok(token)
     }
 
-    // Records that the call was done, or that it failed where it is to fail.
+    // Records and notes that the call was done, or records that it failed where it is to fail.
     pub(crate) fn act(&mut self, by: &Token, call: Call) -> Result<(), FolderFault>
         requires { MayFail call }
         ensures told { TellsAct self.old self.new by.now call result }
@@ -199,10 +209,12 @@ impl MemoryFolder {
         ensures each { CountsEach FolderFault.Failed (faults_of self.old)
             (faults_of self.new) result }
         ensures counts { IsUncounted self.old self.new }
+        ensures settles { Settles (journal_of self.old) (journal_of self.new) result }
     {
         let call = self.pass(by, call)?;
         self.log
             .record(self.alloc, by, call, Outcome::Done(Answer::Empty))?;
+        self.journal.done();
         Ok(())
     }
 

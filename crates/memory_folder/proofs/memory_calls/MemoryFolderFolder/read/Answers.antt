@@ -15,21 +15,21 @@ use Rattle.memory_folder.proofs.memory_calls.MemoryFolderFolder.read.Goals as go
 abbrev gives_read : ℕ → (name : Name) → Folder → History → CallResult Found → Type 0
 gives_read limit name first between result = GivesRead limit (after first between) name result
 
-pub returns-in_err-read-clause-told : goal.returns-in_err-read-clause-told
-returns-in_err-read-clause-told c =
+pub returns-in_err-found-clause-told : goal.returns-in_err-found-clause-told
+returns-in_err-found-clause-told c =
     told_want (past_of c.args.self.now) (past_in c.read.new.self) c.args.by.now
     (reads c.args.name) (gives_read c.args.limit c.args.name) found_result refl
-    c.from_residual-in_err-read.result c.from_residual-in_err-read.ensures
-    (c.in_err-read.ensures.err ∙ ap past_of c.in_ok-pass.ensures.same)
+    c.from_residual-in_err-found.result c.from_residual-in_err-found.ensures
+    (c.in_err-found.ensures.err ∙ ap past_of c.in_ok-pass.ensures.same)
 
 pub returns-clause-told : goal.returns-clause-told
 returns-clause-told c =
     let by = c.args.by.now in
     let name = c.args.name in
-    let found = found_of c.in_ok-read.field-0 in
+    let found = found_of c.in_ok-found.found in
     let same = ap past_of c.in_ok-pass.ensures.same in
     told_done (past_of c.args.self.now) (past_in c.read.new.self) by (reads name)
     (gives_read c.args.limit name) found
-    (c.in_ok-read.ensures.ok ∙ ap (with_event (done_event by (reads name) found)) same)
-    (c.in_ok-read.ensures.value
+    (c.in_ok-found.ensures.ok ∙ ap (with_event (done_event by (reads name) found)) same)
+    (c.in_ok-found.ensures.value
     ∙ ap (λ (past : Past). found_within c.args.limit ((folder_after past).file name)) same)
