@@ -2,7 +2,7 @@
 -- outcome the call was done with the answer that leads there, and StandsLemmas has what that makes
 -- of the standing. The lemmas stand in the order of the calls. Where a step tells that the folder
 -- failed, its call told so (`counts`); so each call is a step (`takes-call`).
-use Rattle.std.proofs.Common.{ap, ℕ, ◌+◌, ◌≡◌, ◌<◌, List, length, get_or, Result, Ok, Err}
+use Rattle.std.proofs.Common.{ap, refl, ℕ, ◌+◌, ◌≡◌, ◌<◌, List, length, get_or, Result, Ok, Err}
 use Rattle.std.specs.Prelude.{IfOk, IsErrOf}
 use Rattle.acct_outside.specs.declared.FolderFault.{FolderFault}
 use Rattle.acct_outside.specs.declared.FolderFault.TheVariants.{Failed}
@@ -15,6 +15,7 @@ use Rattle.acct_outside.specs.Faults.{CountsFailure}
 use Rattle.acct_outside.specs.Tokens.{Token, free_text}
 use Rattle.acct_outside.specs.Calls.{Answer, Call, CallResult, Found, found_absent, found_bytes, found_too_large, lists, reads, asks, creates, writes, renames, removes}
 use Rattle.acct_outside.specs.Moment.{Narrows, Moment}
+use Rattle.acct_outside.specs.Journal.{makes, reply_of}
 use Rattle.acct_outside.specs.Contract.{Passes, ReadsFolder, Tells, found_result}
 use Rattle.acct_outside.specs.declared.Name.{Name}
 use Rattle.acct_outside.specs.declared.Found.{Found as Reading}
@@ -25,7 +26,7 @@ use Rattle.suite_rules.specs.Rules.{Permits}
 use Rattle.suite_rules.specs.Standing.{Standing, standing_step}
 use Rattle.suite_rules.specs.Knowledge.{Knowledge}
 use Rattle.suite_rules.specs.Steps.{StandsIn, TakesStep}
-use Rattle.suite_rules.proofs.StepLemmas.{IsNoAnswer, read-tells, stands-done, takes-step}
+use Rattle.suite_rules.proofs.StepLemmas.{IsNoAnswer, read-notes, read-tells, stands-done, takes-step}
 use Rattle.lock_steps.specs.declared.LockEnd.{LockEnd}
 use Rattle.lock_steps.specs.declared.judging.Told.{Told}
 use Rattle.lock_steps.specs.declared.judging.Told.TheVariants.{Judged, Ask}
@@ -53,11 +54,13 @@ counts failure before now came result only counted = record {
 pub read-passes :
     {before now : Moment} (token : Token) (name : Name) {found : Result Reading FolderFault}
     → ReadsFolder before now token name (name_limit name) found
-    → Passes before now (Tells before now token (reads name) (found_result found)) found
+    → Passes before now (Tells before now token (reads name) (found_result found))
+    (makes (reads name) (reply_of (reads name) (found_result found))) found
 read-passes {before} {now} token name {found} passes = record {
   told = read-tells before now token name found passes.told;
   narrows = passes.narrows;
   faults = passes.faults;
+  noted = read-notes before now name name refl found passes.noted;
 }
 
 -- a call that the rules permit is a step, if the session stands by what the call leads to, and a
@@ -75,7 +78,8 @@ pub takes-call :
     → (failure : Fault) (answer : Result (Answer call) FolderFault) (came : Result T FolderFault)
     → (result : Result State Fault)
     → StandsIn before token Held
-    → Passes before now (Tells before now token call answer) came
+    → Passes before now (Tells before now token call answer) (makes call (reply_of call answer))
+    came
     → Shows answer result
     → ((before now : Moment) → Narrows before.admits now.admits → Shows answer result
     → StandsIn before token Held → Tells before now token call answer
@@ -85,7 +89,8 @@ pub takes-call :
 takes-call {before = before} {now = now} token call no_answer may Held permits part same Shows Holds
     failure answer came result stands passes shown leads only =
     takes-step before now passes.narrows token call no_answer may Held permits part same
-    (λ answer. Shows answer result) Holds failure result answer stands passes.told shown
+    (λ answer. Shows answer result) Holds failure result answer stands
+    (record { told = passes.told; noted = passes.noted }) shown
     (leads before now passes.narrows shown stands passes.told)
     (counts failure _ _ came result only passes.faults)
 

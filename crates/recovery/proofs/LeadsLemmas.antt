@@ -18,7 +18,7 @@ use Rattle.suite_rules.specs.Standing.{Standing, standing_step}
 use Rattle.suite_rules.specs.Rules.{Permits}
 use Rattle.suite_rules.specs.Steps.{StandsIn, MakesCall, TakesNext, TakesStep, own_command}
 use Rattle.suite_rules.specs.Outcomes.{LeadsTo}
-use Rattle.suite_rules.proofs.StepLemmas.{IsNoAnswer, may-act, stands-done, takes-step as step-taken}
+use Rattle.suite_rules.proofs.StepLemmas.{Called, IsNoAnswer, may-act, stands-done, takes-step as step-taken}
 
 -- a session that stands may act, by whatever name of its token
 pub acts-as : (Held : Standing → Type 0) (now : Moment) (by token : Token) → by ≡ token →
@@ -58,14 +58,15 @@ module _ {State : Type 0} (call : Call) (no_answer : IsNoAnswer call) (Held : St
       Narrows before.admits now.admits → (token : Token)
       (answer : Result (Answer call) FolderFault) (result : Result State StageFault) →
       LeadsTo next staged answer result → StandsIn before token Held →
-      Tells before now token call answer →
+      Called before now token call answer →
       CountsFailure (staged Failed) before.faults now.faults result →
       TakesStep before now token call (λ answer. LeadsTo next staged answer result) Holds
       own_command (staged Failed) result
-  takes-step may same permits staged before now narrows token answer result shown stands tells
+  takes-step may same permits staged before now narrows token answer result shown stands called
       faults = step-taken before now narrows token call no_answer may Held permits own_command same
-      (λ answer. LeadsTo next staged answer result) Holds (staged Failed) result answer stands tells
-      shown (leads-on staged before now narrows token answer result shown stands tells) faults
+      (λ answer. LeadsTo next staged answer result) Holds (staged Failed) result answer stands
+      called shown
+      (leads-on staged before now narrows token answer result shown stands called.told) faults
 
 -- a step with the call for the first of what is left, where that is this one
 pub takes-next : {A State Fault Part : Type 0} (before now : Moment) (token : Token)

@@ -6,8 +6,8 @@
 -- (`stands-memory`), that the session may answer after each (`may-answer`, `makes-call`), and which
 -- parts of its standing the call leaves (`leaves`, `stands-left`). Where the rules permit the
 -- call, a lawful history stays lawful (`stays-lawful`), and all that is a step (`takes-step`). A read with the limit of its name is such
--- a call (`read-tells`), a call by another name of the token is the same (`told-of`), and a
--- session that has begun stands at the start (`stands-begun`).
+-- a call (`read-tells`, `read-notes`), a call by another name of the token is the same (`told-of`,
+-- `called-of`), and a session that has begun stands at the start (`stands-begun`).
 use Rattle.std.proofs.Common.{◌≡◌, refl, sym, ap, subst, ◌∙◌, false, [], ◌∷◌, Option, Some, None, IfSome, Result, Ok, Err}
 use Rattle.std.specs.Prelude.{IfOk}
 use Rattle.acct_outside.specs.declared.Name.{Name}
@@ -23,8 +23,9 @@ use Rattle.acct_outside.specs.Life.{Life, life, running, faulted, life_step, run
 use Rattle.acct_outside.specs.Gives.{GivesResult}
 use Rattle.acct_outside.specs.Others.{Admission, ByOthers, none_came, one_came}
 use Rattle.acct_outside.specs.Faults.{CountsFailure}
-use Rattle.acct_outside.specs.Moment.{Past, Moment, Narrows}
-use Rattle.acct_outside.specs.Contract.{NeverAdmits, WhereTold, TellsEvent, Tells, TellsBegin, TellsRead, was_begun, found_result}
+use Rattle.acct_outside.specs.Moment.{Past, Moment, Narrows, Notes}
+use Rattle.acct_outside.specs.Journal.{Reply, makes, plain_reply}
+use Rattle.acct_outside.specs.Contract.{NeverAdmits, NotesCall, WhereTold, TellsEvent, Tells, TellsBegin, TellsRead, was_begun, found_result}
 use Rattle.suite_rules.specs.Deeds.{SuiteDeeds}
 use Rattle.suite_rules.specs.Standing.{Standing, standing, standing_step}
 use Rattle.suite_rules.specs.Rules.{Permits}
@@ -72,6 +73,19 @@ pub told-of : (before now : Moment) (by token : Token) (call : Call)
     Tells before now by call answer → Tells before now token call answer
 told-of before now by token call answer same =
     subst (λ (other : Token). Tells before now other call answer) same
+
+-- what a call tells and notes
+pub record Called (before now : Moment) (token : Token) (call : Call)
+    (answer : Result (Answer call) FolderFault) : Type 0 where
+  pub told : Tells before now token call answer
+  pub noted : NotesCall before now call answer
+
+-- so it does by another name of the token
+pub called-of : (before now : Moment) (by token : Token) (call : Call)
+    (answer : Result (Answer call) FolderFault) → by ≡ token →
+    Called before now by call answer → Called before now token call answer
+called-of before now by token call answer same =
+    subst (λ (other : Token). Called before now other call answer) same
 
 -- the session's life, standing and own events are as they were
 pub record Stayed (token : Token) (old new : History) : Type 0 where
@@ -294,15 +308,16 @@ pub makes-call : (before now : Moment) → Narrows before.admits now.admits → 
     (call : Call) → IsNoAnswer call → (Held : Standing → Type 0)
     (Shows : Result (Answer call) FolderFault → Type 0)
     (answer : Result (Answer call) FolderFault) →
-    StandsIn before token Held → Tells before now token call answer → Shows answer →
+    StandsIn before token Held → Called before now token call answer → Shows answer →
     MakesCall before now token call Shows
-makes-call before now narrows token call no_answer Held Shows answer stands tells shown = record {
+makes-call before now narrows token call no_answer Held Shows answer stands called shown = record {
   answer = answer;
-  told = tells;
+  told = called.told;
+  noted = called.noted;
   shown = shown;
   narrows = narrows;
   may_answer = may-answer before.admits now.admits narrows token call no_answer Held answer
-      before.told now.told stands tells;
+      before.told now.told stands called.told;
 }
 
 -- A part of the standing with a value, which a call leaves, has that value after the call.
@@ -439,6 +454,22 @@ pub read-tells : (before now : Moment) (token : Token) (name : Name)
 read-tells before now token name result =
     read-told before.admits token name result before.told now.told
 
+-- it comes to as much by what it found as an event has it
+found-reply : (result : Result Reading FolderFault) →
+    plain_reply result ≡ plain_reply (found_result result)
+found-reply (Ok found) = refl
+found-reply (Err fault) = refl
+
+-- a read that is noted of a name is noted of what is the same
+pub read-notes : (before now : Moment) (name next : Name) → name ≡ next →
+    (result : Result Reading FolderFault) → Notes before now
+    (makes (reads name) (plain_reply result)) →
+    NotesCall before now (reads next) (found_result result)
+read-notes before now name next same result noted =
+    subst (λ (other : Name). NotesCall before now (reads other) (found_result result)) same
+    (subst (λ (reply : Reply). Notes before now (makes (reads name) reply)) (found-reply result)
+    noted)
+
 -- a step with a call that the rules permit, and that leaves a part of the standing
 pub takes-step : {State Fault Part : Type 0} (before now : Moment) →
     Narrows before.admits now.admits → (token : Token) (call : Call) → IsNoAnswer call →
@@ -449,18 +480,18 @@ pub takes-step : {State Fault Part : Type 0} (before now : Moment) →
     part (standing_step call result stood) ≡ part stood) →
     (Shows : Result (Answer call) FolderFault → Type 0) (Holds : State → Standing → Type 0)
     (failure : Fault) (result : Result State Fault) (answer : Result (Answer call) FolderFault) →
-    StandsIn before token Held → Tells before now token call answer → Shows answer →
+    StandsIn before token Held → Called before now token call answer → Shows answer →
     IfOk result (λ state. StandsIn now token (Holds state)) →
     CountsFailure failure before.faults now.faults result →
     TakesStep before now token call Shows Holds part failure result
 takes-step before now narrows token call no_answer may Held permits part same Shows Holds failure
-    result answer stands tells shown next faults = record {
-      call = makes-call before now narrows token call no_answer Held Shows answer stands tells
+    result answer stands called shown next faults = record {
+      call = makes-call before now narrows token call no_answer Held Shows answer stands called
           shown;
       next = next;
       left = leaves before.admits now.admits narrows token call no_answer Held part same answer
-          before.told now.told stands tells;
+          before.told now.told stands called.told;
       lawful = λ deeds. stays-lawful deeds before.admits token call may Held (permits deeds) answer
-          before.told now.told stands tells;
+          before.told now.told stands called.told;
       faults = faults;
     }

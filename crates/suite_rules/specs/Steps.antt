@@ -11,7 +11,7 @@ use Rattle.acct_outside.specs.Life.{life, running}
 use Rattle.acct_outside.specs.Others.{Admission}
 use Rattle.acct_outside.specs.Faults.{CountsFailure}
 use Rattle.acct_outside.specs.Moment.{Past, Moment, Narrows}
-use Rattle.acct_outside.specs.Contract.{NeverAdmits, MayAnswer, WhereTold, Tells}
+use Rattle.acct_outside.specs.Contract.{NeverAdmits, MayAnswer, NotesCall, WhereTold, Tells}
 use Rattle.acct_outside.specs.declared.CommitStage.{CommitStage}
 use Rattle.suite_rules.specs.Deeds.{SuiteDeeds}
 use Rattle.suite_rules.specs.Knowledge.{Knowledge}
@@ -78,12 +78,13 @@ Leaves part token before now = WhereTold before.told now.told (λ first old new.
     part (standing token new) ≡ part (standing token old))
 
 -- The session makes this one call: events come that the folder admits, and then the call's own,
--- with an answer that shows in what the step gives. The folder admits no more than before, and the
--- session may answer now, whatever the call answered.
+-- with an answer that shows in what the step gives. The call is noted, whatever it came to. The folder
+-- admits no more than before, and the session may answer now, whatever the call answered.
 pub record MakesCall (before now : Moment) (token : Token) (call : Call)
     (Shows : Result (Answer call) FolderFault → Type 0) : Type 0 where
   pub answer : Result (Answer call) FolderFault
   pub told : Tells before now token call answer
+  pub noted : NotesCall before now call answer
   pub shown : Shows answer
   pub narrows : Narrows before.admits now.admits
   pub may_answer : MayAnswer now token

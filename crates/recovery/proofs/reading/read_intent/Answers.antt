@@ -4,7 +4,7 @@ use Rattle.acct_outside.specs.Calls.{reads}
 use Rattle.acct_outside.specs.Contract.{found_result}
 use Rattle.suite_rules.specs.Rules.{free_read}
 use Rattle.suite_rules.specs.Steps.{own_command}
-use Rattle.suite_rules.proofs.StepLemmas.{told-of, read-tells, takes-step}
+use Rattle.suite_rules.proofs.StepLemmas.{told-of, read-notes, read-tells, takes-step}
 use Rattle.lock_steps.specs.Stands.{Keeps, KnowsAnything}
 use Rattle.lock_steps.proofs.OutcomesLemmas.{counts}
 use Rattle.recovery.specs.declared.RecoveryEnd.TheVariants.{Fault}
@@ -36,11 +36,13 @@ returns g c =
     let shown = c.after_read.ensures.shown in
     let told = told-of before now _ token (reads Intent) answer c.token.ensures
     (read-tells before now _ Intent found c.read-found.ensures.call.told) in
+    let noted = read-notes before now Intent Intent refl found c.read-found.ensures.call.noted in
     record {
       step = takes-step before now narrows token (reads Intent) tt tt keeps
           (λ deeds stood kept. free_read Intent) own_command (λ result stood held. refl)
           (λ answer. FindsIntent c.args.keeper answer c.after_read.result) HoldsSeen
-          (Fault failed_before) c.after_read.result answer c.requires told shown
+          (Fault failed_before) c.after_read.result answer c.requires
+          (record { told = told; noted = noted }) shown
           (read-leads before now narrows token c.args.keeper answer c.after_read.result shown
           c.requires told)
           (counts (Fault failed_before) _ _ found c.after_read.result c.after_read.ensures.failed

@@ -7,7 +7,7 @@ use Rattle.acct_outside.specs.Calls.{appends}
 use Rattle.acct_outside.specs.Contract.{Tells}
 use Rattle.suite_rules.specs.Steps.{own_command}
 use Rattle.suite_rules.specs.Outcomes.{LeadsTo, before_commit}
-use Rattle.suite_rules.proofs.StepLemmas.{told-of}
+use Rattle.suite_rules.proofs.StepLemmas.{Called, called-of}
 use Rattle.lock_steps.proofs.OutcomesLemmas.{counts}
 use Rattle.recovery.proofs.LeadsLemmas.{takes-next, takes-step}
 use Rattle.commit_steps.specs.States.{Change, Walker, append_on, next_table, old_bytes}
@@ -35,17 +35,18 @@ returns g c =
     let begun = begun-backup walker next there.1 c.requires.pieces in
     let shown = subst (λ (walked : Walker). LeadsTo walked before_commit appended c.leads.result)
     c.append_on.ensures c.leads.ensures.shown in
-    let told = subst (λ (bytes : Bytes).
-    Tells before now (token_of walker) (appends BackupStage bytes) appended) piece
-    (told-of before now _ (token_of walker) (appends BackupStage c.piece_at-piece.result.now)
+    let tells = subst (λ (bytes : Bytes).
+    Called before now (token_of walker) (appends BackupStage bytes) appended) piece
+    (called-of before now _ (token_of walker) (appends BackupStage c.piece_at-piece.result.now)
     appended (c.token-token.ensures ∙ ap (λ (change : Change). change.inputs.keeper.token)
-    (c.prepared.ensures ∙ ap (λ (one : Walker). one.change) c.self.view_is)) called.told) in
+    (c.prepared.ensures ∙ ap (λ (one : Walker). one.change) c.self.view_is))
+    (record { told = called.told; noted = called.noted })) in
     takes-next before now (token_of walker) (next_table walker) next there.1 (backs_up_more walker)
     (λ next answer. LeadsTo (append_on walker) before_commit answer c.leads.result) BacksUp
     own_command (before_commit Failed) c.leads.result
     (takes-step (backs_up_more walker next) tt (BacksUp walker) BacksUp (append_on walker)
     (backs-after-append walker next there.1 begun) tt (λ result stood held. refl)
     (may-append-backup walker next there.1 begun) before_commit before now called.narrows
-    (token_of walker) appended c.leads.result shown c.requires.stands told
+    (token_of walker) appended c.leads.result shown c.requires.stands tells
     (counts (before_commit Failed) _ _ appended c.leads.result c.leads.ensures.failed
     called.faults))

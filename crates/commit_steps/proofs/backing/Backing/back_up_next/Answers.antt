@@ -7,7 +7,7 @@ use Rattle.acct_outside.specs.Pieces.{piece_at}
 use Rattle.acct_outside.specs.Calls.{writes}
 use Rattle.acct_outside.specs.Contract.{Tells}
 use Rattle.suite_rules.specs.Outcomes.{LeadsTo, before_commit}
-use Rattle.suite_rules.proofs.StepLemmas.{told-of}
+use Rattle.suite_rules.proofs.StepLemmas.{Called, called-of}
 use Rattle.lock_steps.proofs.OutcomesLemmas.{counts}
 use Rattle.recovery.proofs.LeadsLemmas.{takes-step}
 use Rattle.commit_steps.specs.States.{Change, Walker, changed, has_staged, old_bytes, old_files, step_on}
@@ -51,7 +51,8 @@ returns g c =
           may-move-backup walker next is_next stands staged whole stood held deeds)
           before_commit before now came.narrows (token_of walker) called c.leads.result shown
           c.requires.stands
-          (told-of before now _ (token_of walker) (moves_backup_of next) called token came.told)
+          (called-of before now _ (token_of walker) (moves_backup_of next) called token
+          (record { told = came.told; noted = came.noted }))
           (counts (before_commit Failed) _ _ called c.leads.result c.leads.ensures.failed
           came.faults))
       | inr unstaged ↦
@@ -63,11 +64,11 @@ returns g c =
           (backs-after-write walker next is_next unstaged) tt (λ result stood held. refl)
           (may-stage-backup walker next is_next) before_commit before now came.narrows
           (token_of walker) called c.leads.result shown c.requires.stands
-          (subst (λ (change : Change). Tells before now (token_of walker)
+          (subst (λ (change : Change). Called before now (token_of walker)
           (writes BackupStage (piece_at 0 (old_bytes change next.table))) called) change
-          (told-of before now _ (token_of walker)
+          (called-of before now _ (token_of walker)
           (writes BackupStage (piece_at 0 (old_bytes c.prepared.result.now next.table))) called
-          token came.told))
+          token (record { told = came.told; noted = came.noted })))
           (counts (before_commit Failed) _ _ called c.leads.result c.leads.ensures.failed
           came.faults))
     ]

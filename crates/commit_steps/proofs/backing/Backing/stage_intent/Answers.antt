@@ -6,7 +6,7 @@ use Rattle.acct_outside.specs.Contract.{Tells}
 use Rattle.intent_file.specs.Intent.{ReadsIntent, intent_text}
 use Rattle.acct_outside.specs.declared.FolderFault.TheVariants.{Failed}
 use Rattle.suite_rules.specs.Outcomes.{LeadsTo, before_commit}
-use Rattle.suite_rules.proofs.StepLemmas.{told-of}
+use Rattle.suite_rules.proofs.StepLemmas.{Called, called-of}
 use Rattle.lock_steps.proofs.OutcomesLemmas.{counts}
 use Rattle.recovery.proofs.LeadsLemmas.{acts-as, takes-step}
 use Rattle.commit_steps.specs.States.{Change, Stager, Walker, intended, intent_piece, begun_of}
@@ -39,16 +39,16 @@ returns g c =
     c.intent_piece-piece.ensures.reads in
     let shown = subst (λ (next : Stager). LeadsTo next before_commit written c.leads.result)
     (c.of.ensures ∙ ap begun_of change) c.leads.ensures.shown in
-    let told = subst (λ (bytes : Bytes).
-    Tells before now (token_of walker) (writes IntentStage bytes) written) piece
-    (told-of before now _ (token_of walker)
+    let tells = subst (λ (bytes : Bytes).
+    Called before now (token_of walker) (writes IntentStage bytes) written) piece
+    (called-of before now _ (token_of walker)
     (writes IntentStage c.intent_piece-piece.result.now) written
     (c.token.ensures ∙ ap (λ (change : Change). change.inputs.keeper.token) change)
-    c.write-written.ensures.told) in
+    (record { told = c.write-written.ensures.told; noted = c.write-written.ensures.noted })) in
     takes-step (stages_intent walker reads_it) tt (BacksUp walker) HasStagedIntent
     (begun_of walker.change) (intent-after-write walker reads_it c.requires.left) tt
     (λ result stood held. refl) (may-stage-intent walker reads_it)
     before_commit before now narrows (token_of walker) written c.leads.result shown
-    c.requires.stands told
+    c.requires.stands tells
     (counts (before_commit Failed) _ _ written c.leads.result c.leads.ensures.failed
     c.write-written.ensures.faults)

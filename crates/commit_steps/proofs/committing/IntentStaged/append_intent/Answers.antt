@@ -6,7 +6,7 @@ use Rattle.acct_outside.specs.Calls.{appends}
 use Rattle.acct_outside.specs.Contract.{Tells}
 use Rattle.intent_file.specs.Pieces.{intent_pieces}
 use Rattle.suite_rules.specs.Outcomes.{LeadsTo, before_commit}
-use Rattle.suite_rules.proofs.StepLemmas.{told-of}
+use Rattle.suite_rules.proofs.StepLemmas.{Called, called-of}
 use Rattle.lock_steps.proofs.OutcomesLemmas.{counts}
 use Rattle.recovery.proofs.LeadsLemmas.{takes-step}
 use Rattle.commit_steps.specs.States.{Stager, append_intent, intended, intent_piece}
@@ -33,13 +33,13 @@ returns g c =
     ∙ ap (λ (one : Stager). intent_piece one.staged one.change) c.self.view_is in
     let shown = subst (λ (one : Stager). LeadsTo one before_commit appended c.leads.result)
     c.append_on.ensures c.leads.ensures.shown in
-    let told = subst (λ (bytes : Bytes).
-    Tells before now token (appends IntentStage bytes) appended) piece
-    (told-of before now _ token (appends IntentStage c.intent_piece-piece.result.now) appended
+    let tells = subst (λ (bytes : Bytes).
+    Called before now token (appends IntentStage bytes) appended) piece
+    (called-of before now _ token (appends IntentStage c.intent_piece-piece.result.now) appended
     (c.token.ensures ∙ ap (λ (one : Stager). one.change.inputs.keeper.token) c.self.view_is)
-    called.told) in
+    (record { told = called.told; noted = called.noted })) in
     takes-step (stages_further stager) tt (HasStagedIntent stager) HasStagedIntent
     (append_intent stager) (intent-after-append stager c.requires.pieces) tt
     (λ result stood held. refl) (may-append-intent stager) before_commit before now called.narrows
-    token appended c.leads.result shown c.requires.stands told
+    token appended c.leads.result shown c.requires.stands tells
     (counts (before_commit Failed) _ _ appended c.leads.result c.leads.ensures.failed called.faults)

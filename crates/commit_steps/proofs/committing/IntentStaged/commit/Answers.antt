@@ -1,7 +1,7 @@
 use Rattle.std.proofs.Common.{refl, ap, subst, ◌∙◌}
 use Rattle.suite_rules.specs.Steps.{asked}
 use Rattle.suite_rules.specs.Outcomes.{LeadsTo, at_commit}
-use Rattle.suite_rules.proofs.StepLemmas.{told-of, makes-call, leaves, stays-lawful, stands-both}
+use Rattle.suite_rules.proofs.StepLemmas.{called-of, makes-call, leaves, stays-lawful, stands-both}
 use Rattle.recovery.proofs.LeadsLemmas.{leads-on}
 use Rattle.commit_steps.specs.States.{Stager, Walker, walk_of}
 use Rattle.commit_steps.specs.Stands.{HasStagedIntent, Installs, IsDeed}
@@ -22,13 +22,14 @@ returns g c =
     let shown = subst (λ (walker : Walker). LeadsTo walker at_commit moved c.commits.result)
     (c.start.ensures ∙ ap (λ (one : Stager). walk_of one.change) c.self.view_is)
     c.commits.ensures.shown in
-    let told = told-of before now _ token commit_call moved
+    let called = called-of before now _ token commit_call moved
     (c.token-token.ensures
     ∙ ap (λ (one : Stager). one.change.inputs.keeper.token) c.self.view_is)
-    c.rename-moved.ensures.told in
+    (record { told = c.rename-moved.ensures.told; noted = c.rename-moved.ensures.noted }) in
+    let told = called.told in
     record {
       call = makes-call before now narrows token commit_call tt (HasStagedIntent stager) _
-          moved c.requires.stands told shown;
+          moved c.requires.stands called shown;
       next = leads-on commit_call tt (HasStagedIntent stager) Installs (walk_of change)
           (installs-after-commit stager whole) at_commit before now narrows token moved
           c.commits.result shown c.requires.stands told;

@@ -4,7 +4,7 @@ use Rattle.acct_outside.specs.Contract.{Tells}
 use Rattle.acct_outside.specs.Pieces.{piece_count}
 use Rattle.suite_rules.specs.Outcomes.{LeadsTo, after_commit, stages_more}
 use Rattle.suite_rules.specs.Steps.{own_command}
-use Rattle.suite_rules.proofs.StepLemmas.{told-of}
+use Rattle.suite_rules.proofs.StepLemmas.{Called, called-of}
 use Rattle.lock_steps.proofs.OutcomesLemmas.{counts}
 use Rattle.recovery.proofs.CarryLemmas.{left-of, may-append}
 use Rattle.recovery.proofs.LeadsLemmas.{takes-next, takes-step}
@@ -58,8 +58,8 @@ returns g c =
     (held.staged begun) deeds)
     after_commit before now called.narrows (token_of walker) appended c.leads.result shown
     c.requires.stands
-    (told-of before now _ (token_of walker) (installs_more walker next) appended token
+    (called-of before now _ (token_of walker) (installs_more walker next) appended token
     (subst (λ (staged : ℕ).
-    Tells before now c.token-token.result.now (stages_more staged next) appended)
-    staged called.told))
+    Called before now c.token-token.result.now (stages_more staged next) appended)
+    staged (record { told = called.told; noted = called.noted })))
     (counts (after_commit Failed) _ _ appended c.leads.result c.leads.ensures.failed called.faults))

@@ -3,7 +3,7 @@ use Rattle.acct_outside.specs.declared.Name.TheVariants.{Intent}
 use Rattle.acct_outside.specs.declared.FolderFault.TheVariants.{Failed}
 use Rattle.acct_outside.specs.Calls.{removes}
 use Rattle.suite_rules.specs.Outcomes.{LeadsTo, after_commit}
-use Rattle.suite_rules.proofs.StepLemmas.{told-of}
+use Rattle.suite_rules.proofs.StepLemmas.{Called, called-of}
 use Rattle.lock_steps.specs.States.{Kept}
 use Rattle.lock_steps.proofs.OutcomesLemmas.{counts}
 use Rattle.recovery.proofs.CarryLemmas.{may-remove}
@@ -36,7 +36,8 @@ returns g c =
     let token = c.token.ensures ∙ ap (λ (kept : Kept). kept.token) (c.keeper.ensures ∙ keeper) in
     let shown = subst (λ (kept : Kept). LeadsTo kept after_commit removed c.leads.result)
     (c.release-keeper.ensures ∙ keeper) c.leads.ensures.shown in
-    let told = told-of before now _ (token_of walker) (removes Intent) removed token called.told in
+    let tells = called-of before now _ (token_of walker) (removes Intent) removed token
+    (record { told = called.told; noted = called.noted }) in
     takes-step (removes Intent) tt (Installs walker) HasCleared walker.change.inputs.keeper
     (λ answer stood held. cleared-after-removal walker stood held answer) tt
     (λ result stood held. refl)
@@ -44,5 +45,5 @@ returns g c =
     (tables_left walker) stood held.carries deeds
     (none-installs walker stood held c.requires.left))
     after_commit before now called.narrows (token_of walker) removed c.leads.result shown
-    c.requires.stands told
+    c.requires.stands tells
     (counts (after_commit Failed) _ _ removed c.leads.result c.leads.ensures.failed called.faults)

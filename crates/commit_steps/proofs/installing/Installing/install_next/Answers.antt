@@ -2,7 +2,7 @@ use Rattle.std.proofs.Common.{◌≡◌, inl, inr, refl, sym, ap, subst, ◌∙�
 use Rattle.std.proofs.lemmas.Bool.{cases_Bool}
 use Rattle.acct_outside.specs.declared.FolderFault.TheVariants.{Failed}
 use Rattle.suite_rules.specs.Outcomes.{LeadsTo, after_commit, installs, stages}
-use Rattle.suite_rules.proofs.StepLemmas.{told-of}
+use Rattle.suite_rules.proofs.StepLemmas.{Called, called-of}
 use Rattle.lock_steps.proofs.OutcomesLemmas.{counts}
 use Rattle.recovery.proofs.CarryLemmas.{may-move, may-stage}
 use Rattle.recovery.proofs.LeadsLemmas.{takes-step}
@@ -45,7 +45,8 @@ returns g c =
           walker.staged (staged-some walker staged) whole (held.staged staged))
           after_commit before now came.narrows (token_of walker) called c.leads.result shown
           c.requires.stands
-          (told-of before now _ (token_of walker) (installs next) called token came.told)
+          (called-of before now _ (token_of walker) (installs next) called token
+          (record { told = came.told; noted = came.noted }))
           (counts (after_commit Failed) _ _ called c.leads.result c.leads.ensures.failed
           came.faults))
       | inr unstaged ↦
@@ -58,7 +59,8 @@ returns g c =
           (tables_left walker) stood held.carries next (first-left walker next is_next) deeds)
           after_commit before now came.narrows (token_of walker) called c.leads.result shown
           c.requires.stands
-          (told-of before now _ (token_of walker) (stages next) called token came.told)
+          (called-of before now _ (token_of walker) (stages next) called token
+          (record { told = came.told; noted = came.noted }))
           (counts (after_commit Failed) _ _ called c.leads.result c.leads.ensures.failed
           came.faults))
     ]

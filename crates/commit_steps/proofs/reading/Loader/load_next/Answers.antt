@@ -3,7 +3,7 @@ use Rattle.acct_outside.specs.Calls.{reads}
 use Rattle.acct_outside.specs.Contract.{found_result}
 use Rattle.suite_rules.specs.Rules.{free_read}
 use Rattle.suite_rules.specs.Steps.{own_command}
-use Rattle.suite_rules.proofs.StepLemmas.{makes-call, leaves, stays-lawful}
+use Rattle.suite_rules.proofs.StepLemmas.{makes-call, leaves, read-notes, stays-lawful}
 use Rattle.commit_steps.specs.States.{AreSound, Reader, next_name}
 use Rattle.commit_steps.specs.Stands.{HasRead}
 use Rattle.commit_steps.proofs.ReadsLemmas.{load-leads, load-refuses, next-told}
@@ -23,12 +23,14 @@ returns g c =
     let told = next-told next c.next_name-name.result c.next_name-name.ensures before now _ token
     (c.token.ensures ∙ ap (λ (reader : Reader). reader.keeper.token) c.self.view_is)
     c.read-found.result c.read-found.ensures.call.told in
+    let noted = read-notes before now c.next_name-name.result (next_name next)
+    c.next_name-name.ensures c.read-found.result c.read-found.ensures.call.noted in
     let sound = subst (λ (reader : Reader). AreSound reader.next reader.files) c.self.view_is
     c.self.invariant in
     record {
       step = record {
         call = makes-call before now narrows token (reads (next_name next)) tt (HasRead reader) _
-            answer c.requires told shown;
+            answer c.requires (record { told = told; noted = noted }) shown;
         next = load-leads reader.keeper reader.files before now narrows token next
             answer c.after_read.result shown c.requires told;
         left = leaves before.admits now.admits narrows token (reads (next_name next)) tt

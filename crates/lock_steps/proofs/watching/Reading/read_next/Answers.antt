@@ -4,6 +4,7 @@ use Rattle.acct_outside.specs.Calls.{reads}
 use Rattle.acct_outside.specs.Contract.{found_result}
 use Rattle.suite_rules.specs.Rules.{free_read}
 use Rattle.suite_rules.specs.Steps.{own_command}
+use Rattle.suite_rules.proofs.StepLemmas.{read-notes}
 use Rattle.lock_steps.specs.Gathered.{AreUnread}
 use Rattle.lock_steps.specs.Watching.{Gatherer, HasGathered, ReadsOn, next_name}
 use Rattle.lock_steps.proofs.OutcomesLemmas.{takes-call}
@@ -28,6 +29,8 @@ returns g c =
           reading.token (ap (λ (one : Gatherer). one.token) c.self.view_is) found called.told;
       narrows = called.narrows;
       faults = called.faults;
+      noted = read-notes before now c.index.result.now (next_name reading) first.0 found
+          called.noted;
     })
     c.after_read.ensures.shown
     (λ before now narrows.

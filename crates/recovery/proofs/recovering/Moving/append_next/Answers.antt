@@ -1,7 +1,7 @@
 use Rattle.std.proofs.Common.{◌≡◌, ◌∙◌, ◌<◌, arith, refl, ap, subst, slice_get, Some}
 use Rattle.suite_rules.specs.Steps.{own_command}
 use Rattle.suite_rules.specs.Outcomes.{LeadsTo, before_commit, stages_more}
-use Rattle.suite_rules.proofs.StepLemmas.{told-of}
+use Rattle.suite_rules.proofs.StepLemmas.{Called, called-of}
 use Rattle.lock_steps.proofs.OutcomesLemmas.{counts}
 use Rattle.acct_outside.specs.Contract.{Tells}
 use Rattle.acct_outside.specs.Pieces.{piece_count}
@@ -49,9 +49,9 @@ returns g c =
     (λ deeds stood held. may-append held.recovers.intent moving.keeper moving.left stood
     held.recovers.carries next is_next moving.staged held.staged deeds)
     before_commit before now called.narrows token appended c.leads.result shown c.requires.stands
-    (told-of before now _ token (stages_more moving.staged next) appended
+    (called-of before now _ token (stages_more moving.staged next) appended
     (c.token.ensures ∙ ap (λ (one : Mover). one.keeper.token) c.self.view_is)
     (subst (λ (one : Mover).
-    Tells before now c.token.result.now (stages_more one.staged next) appended)
-    c.self.view_is called.told))
+    Called before now c.token.result.now (stages_more one.staged next) appended)
+    c.self.view_is (record { told = called.told; noted = called.noted })))
     (counts failed_before _ _ appended c.leads.result c.leads.ensures.failed called.faults))

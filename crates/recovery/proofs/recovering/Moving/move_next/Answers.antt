@@ -1,7 +1,7 @@
 use Rattle.std.proofs.Common.{◌≡◌, ◌∙◌, ◌<◌, refl, sym, ap, subst, slice_get, Some}
 use Rattle.suite_rules.specs.Steps.{own_command}
 use Rattle.suite_rules.specs.Outcomes.{LeadsTo, before_commit, installs}
-use Rattle.suite_rules.proofs.StepLemmas.{told-of}
+use Rattle.suite_rules.proofs.StepLemmas.{Called, called-of}
 use Rattle.lock_steps.proofs.OutcomesLemmas.{counts}
 use Rattle.recovery.specs.States.{Mover, Recoverer, moved_once}
 use Rattle.recovery.specs.Stands.{Recovers, HasStagedNext}
@@ -36,7 +36,7 @@ returns g c =
     (λ deeds stood held. may-move held.recovers.intent moving.keeper moving.left stood
     held.recovers.carries next is_next deeds moving.staged begun whole held.staged)
     before_commit before now called.narrows token moved c.leads.result shown c.requires.stands
-    (told-of before now _ token (installs next) moved
+    (called-of before now _ token (installs next) moved
     (c.token-token.ensures ∙ ap (λ (one : Mover). one.keeper.token) c.self.view_is)
-    called.told)
+    (record { told = called.told; noted = called.noted }))
     (counts failed_before _ _ moved c.leads.result c.leads.ensures.failed called.faults))

@@ -2,7 +2,7 @@ use Rattle.std.proofs.Common.{refl}
 use Rattle.acct_outside.specs.declared.Name.TheVariants.{Intent}
 use Rattle.acct_outside.specs.Calls.{removes}
 use Rattle.suite_rules.specs.Outcomes.{before_commit}
-use Rattle.suite_rules.proofs.StepLemmas.{told-of}
+use Rattle.suite_rules.proofs.StepLemmas.{Called, called-of, told-of}
 use Rattle.lock_steps.specs.Stands.{Keeps, KnowsNoneYet}
 use Rattle.lock_steps.proofs.OutcomesLemmas.{counts}
 use Rattle.recovery.specs.Stands.{Recovers}
@@ -38,6 +38,7 @@ returns g c =
     deeds c.requires.left)
     before_commit before now called.narrows token removed c.after_removal.result
     c.after_removal.ensures.shown c.requires.stands
-    (told-of before now _ token (removes Intent) removed c.token.ensures called.told)
+    (called-of before now _ token (removes Intent) removed c.token.ensures
+    (record { told = called.told; noted = called.noted }))
     (counts failed_before _ _ removed c.after_removal.result c.after_removal.ensures.failed
     called.faults)

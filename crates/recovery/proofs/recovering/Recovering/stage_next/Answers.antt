@@ -1,7 +1,7 @@
 use Rattle.std.proofs.Common.{refl, subst, slice_get}
 use Rattle.suite_rules.specs.Steps.{own_command}
 use Rattle.suite_rules.specs.Outcomes.{LeadsTo, before_commit, stages}
-use Rattle.suite_rules.proofs.StepLemmas.{told-of}
+use Rattle.suite_rules.proofs.StepLemmas.{Called, called-of}
 use Rattle.lock_steps.proofs.OutcomesLemmas.{counts}
 use Rattle.recovery.specs.States.{Mover, mover_of}
 use Rattle.recovery.specs.Stands.{Recovers, HasStagedNext}
@@ -31,5 +31,6 @@ returns g c =
     (λ deeds stood held. may-stage held.intent recovering.keeper recovering.left stood held.carries
     next c.next.ensures deeds)
     before_commit before now called.narrows token staged c.leads.result shown c.requires.stands
-    (told-of before now _ token (stages next) staged c.token.ensures called.told)
+    (called-of before now _ token (stages next) staged c.token.ensures
+    (record { told = called.told; noted = called.noted }))
     (counts failed_before _ _ staged c.leads.result c.leads.ensures.failed called.faults))
