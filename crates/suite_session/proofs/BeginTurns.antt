@@ -28,7 +28,8 @@ use Rattle.suite_answers.specs.declared.answer.Answer.{Answer as FinalAnswer}
 use Rattle.suite_session.specs.declared.state.State.{State}
 use Rattle.suite_session.specs.declared.state.State.TheVariants.{Looking, Answering}
 use Rattle.suite_session.specs.Runner.{Question, Runner}
-use Rattle.acct_outside.specs.Moment.{Past, Moment, Narrows}
+use Rattle.acct_outside.specs.Journal.{makes, was_done}
+use Rattle.acct_outside.specs.Moment.{Past, Moment, Narrows, Notes}
 use Rattle.suite_rules.proofs.Parts.{StandsWhere, StaysLawfulWhere, TellsWhere}
 use Rattle.suite_session.specs.Moment.{Runs, At}
 use Rattle.suite_session.specs.Answers.{memory_answer, IsTold}
@@ -300,8 +301,9 @@ module _ (before now : Moment) where
     -- a begin that gave a token leads there
     pub begins-turn : Narrows before.admits now.admits → before.faults ≤ now.faults →
         (state : State) → IsFirst runner state →
+        Notes before now (makes (begins runner.asked.command) was_done) →
         StepsTo before now runner (begins runner.asked.command) state
-    begins-turn narrows never_falls state is = record {
+    begins-turn narrows never_falls state is noted = record {
       turns = record {
         stands = record {
           stands = first-stands state is;
@@ -317,6 +319,7 @@ module _ (before now : Moment) where
       };
       makes_one = begin-one before.admits runner.asked.command runner.token (FindsNoMemory state)
           before.told now.told tells;
+      asks = record { reply = was_done; noted = noted; refused = λ is. absurd (cc is) };
     }
 
   module _ (asked : Question) (fault : FolderFault)

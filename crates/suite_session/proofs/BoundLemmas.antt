@@ -3,7 +3,7 @@
 -- (`called-last`), and events of others (`called-still`, `within-still`).
 -- Way: of a turn's new events one at most is the session's, of the call of its state (`grew-by`), and one
 -- such call fewer is left; each new event says itself which table it backs up.
-use Rattle.std.proofs.Common.{◌≡◌, ◌⊎◌, refl, sym, ap, subst, ◌<◌, ◌≤◌, ◌+◌, ◌∙◌, ◌++◌, [], ◌∷◌, ℕ, Bool, true, false, not, cond, filter, length, inl, inr, Some, arith}
+use Rattle.std.proofs.Common.{List, ◌≡◌, ◌⊎◌, refl, sym, ap, subst, ◌<◌, ◌≤◌, ◌+◌, ◌∙◌, ◌++◌, [], ◌∷◌, ℕ, Bool, true, false, not, cond, filter, length, inl, inr, Some, arith}
 use Rattle.std.specs.List.{AllByRecursion}
 use Rattle.acct_outside.specs.Tokens.{Token}
 use Rattle.acct_outside.specs.Calls.{Answer as CallAnswer, Call, CallResult, Command, answers, begins, done}
@@ -25,6 +25,7 @@ use Rattle.suite_session.specs.Left.{appends_left, calls_left, is_append, most_a
 use Rattle.suite_session.specs.NextCall.{state_call}
 use Rattle.suite_session.proofs.BackingLemmas.{NeverBacksUp, own-backed, grows-backed}
 use Rattle.suite_session.proofs.DueLemmas.{met-later}
+use Rattle.acct_outside.specs.Journal.{Entry}
 use Rattle.suite_session.proofs.GrowsLemmas.{grows-extends, others-extend, others-grow}
 
 -- ---- Own events
@@ -226,27 +227,27 @@ module _ (admits : Admission) (runner : Runner) (was past : Past)
     }
 
   -- so its calls are within the bound after the next turn
-  pub called-then : (next state : State) (NoMemory : Type 0) →
+  pub called-then : (next state : State) (NoMemory : Type 0) (journal : List Entry) →
       OneMade was past runner.token (state_call state) NoMemory →
-      CountsTo (Some past) runner state next → HasCalled runner.token state was.history →
+      CountsTo (Some past) journal runner state next → HasCalled runner.token state was.history →
       HasCalled runner.token next past.history
-  called-then next (Looking looking) NoMemory made counts called =
+  called-then next (Looking looking) NoMemory journal made counts called =
       nears-then (state_call (Looking looking)) (grew-by was past runner.token _ NoMemory made) next
       (Looking looking) refl refl
       (omega arith) counts called
-  called-then next (Reading seen) NoMemory made counts called =
+  called-then next (Reading seen) NoMemory journal made counts called =
       nears-then (state_call (Reading seen)) (grew-by was past runner.token _ NoMemory made) next
       (Reading seen) refl refl
       (omega arith) counts called
-  called-then next (Asking asking) NoMemory made counts called =
+  called-then next (Asking asking) NoMemory journal made counts called =
       nears-then (state_call (Asking asking)) (grew-by was past runner.token _ NoMemory made) next
       (Asking asking) refl refl
       (omega arith) counts called
-  called-then next (Claiming judged) NoMemory made counts called =
+  called-then next (Claiming judged) NoMemory journal made counts called =
       nears-then (state_call (Claiming judged)) (grew-by was past runner.token _ NoMemory made) next
       (Claiming judged) refl refl
       (omega arith) counts called
-  called-then next (Confirming claimed) NoMemory made counts called =
+  called-then next (Confirming claimed) NoMemory journal made counts called =
       let grew = grew-by was past runner.token (state_call (Confirming claimed)) NoMemory made in
       record {
         lower = counts.lower;
@@ -257,7 +258,7 @@ module _ (admits : Admission) (runner : Runner) (was past : Past)
         appended = sums-same _ _ _ _ _ most_appends grew.appends refl counts.appends
             called.appended;
       }
-  called-then next state NoMemory made counts called =
+  called-then next state NoMemory journal made counts called =
       fewer-then (state_call state) (grew-by was past runner.token _ NoMemory made) next state refl
       (λ is. is) counts called
 

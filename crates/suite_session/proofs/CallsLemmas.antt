@@ -2,7 +2,7 @@
 -- fewer (`append-fewer`, `other-fewer`, `look-calls` to `moved-calls`, `cleaned-calls`), and the second
 -- listing as many more as it shows lower locks (`listing-calls`). Way: by the state that follows, whose
 -- keeper is the one before; six tables at most are listed.
-use Rattle.std.proofs.Common.{◌≡◌, refl, sym, ap, subst, ◌<◌, ◌≤◌, ◌+◌, ℕ, zero, suc, Bool, true, false, nat_lt, List, length, length-drop, drop, slice_get, inl, inr, Option, Some, None, IfSome, Result, Ok, Err, if◌then◌else◌, arith}
+use Rattle.std.proofs.Common.{◌≡◌, refl, sym, ap, subst, ◌<◌, ◌≤◌, ◌+◌, ℕ, zero, suc, Bool, true, false, nat_lt, filter, List, ◌∷◌, ◌∙◌, length, length-drop, drop, slice_get, inl, inr, Option, Some, None, IfSome, Result, Ok, Err, if◌then◌else◌, arith}
 use Rattle.std.specs.Prelude.{option_map, unwrap_or}
 use Rattle.std.proofs.lemmas.List.{length-map}
 use Rattle.acct_outside.specs.declared.FolderFault.{FolderFault}
@@ -42,13 +42,14 @@ use Rattle.suite_session.specs.declared.state.State.{State}
 use Rattle.suite_session.specs.declared.state.State.TheVariants.{Looking, Reading, Asking, Claiming, Unlocking, Answering, BackingUp, Committing, Confirming, Gathering, Installing, Loading, Moving, ReadingIntent, Recovering, Watching}
 use Rattle.suite_session.specs.Runner.{Runner}
 use Rattle.suite_session.specs.Causes.{Met}
-use Rattle.suite_session.specs.Counts.{CountsLower, LeavesFewer, Listed, Nears}
+use Rattle.suite_session.specs.Counts.{CountsLower, LeavesFewer, Listed, Nears, last_lower}
 use Rattle.suite_session.specs.Left.{appends_left, calls_left, is_append, leaving_calls, loading_calls, new_texts, table_appends, texts_appends}
 use Rattle.suite_session.specs.NextCall.{state_call}
 use Rattle.suite_session.specs.Locking.{ShowsFew, after_judging, after_look, after_read, after_listing}
 use Rattle.suite_session.specs.Recovering.{after_intent, Refuses}
 use Rattle.suite_session.specs.Stands.{AnswersWith, LeavesWith}
 use Rattle.suite_session.proofs.AppendsLemmas.{begun-same, listed-begun, listed-fewer, listed-most, listed-small, tables-most}
+use Rattle.acct_outside.specs.Journal.{Entry, makes, reply_of}
 use Rattle.suite_session.proofs.MetLemmas.{told-as}
 
 -- ---- What is left
@@ -226,13 +227,15 @@ answers-near tool cause old state told more = record {
 }
 
 -- or next
-pub answers-listed : (now : Option Past) (runner : Runner) (claimed : Maker) (tool : Tool)
+pub answers-listed : (now : Option Past) (journal : List Entry) (runner : Runner) (claimed : Maker)
+    (tool : Tool)
     (cause : Cause) (state : State) → AnswersWith tool cause state →
-    Listed now runner (Confirming claimed) state
-answers-listed now runner claimed tool cause state told = record {
+    Listed now journal runner (Confirming claimed) state
+answers-listed now journal runner claimed tool cause state told = record {
   lower = 0;
   most = omega arith;
   counts = told-none now;
+  shown = inl refl;
   fewer = (let one = answers-calls tool cause state told in omega (arith, one));
   appends = (let none = answers-appends tool cause state told in omega (arith, none));
 }
@@ -330,32 +333,41 @@ claim-calls judged claimed =
     record { fewer = omega arith; appends = omega arith; next = inl tt }
 
 -- after the second listing
-pub listing-calls : (told : Option Past) (runner : Runner) (claimed : Maker)
+pub listing-calls : (told : Option Past) (journal : List Entry) (runner : Runner) (claimed : Maker)
     (answer : Result (List ℕ) FolderFault) (confirmed : Confirmed) →
     Confirms claimed answer (Ok confirmed) → ((numbers : List ℕ) → answer ≡ Ok numbers →
     IfSome told (λ past. Met runner.token lists numbers (HasMade claimed) past.history)) →
-    ShowsFew confirmed → Listed told runner (Confirming claimed) (after_listing confirmed)
-listing-calls told runner claimed (Ok numbers) (Keeper keeper) shown got few = record {
-  lower = length keeper.lower;
-  most = few;
-  counts = told-as told (λ past met. inr (record {
-    number = claimed.number;
-    numbers = numbers;
-    listed = met;
-    kept = shown.0;
-    are_lower = ap (λ (one : Kept). length one.lower) shown.1;
-  })) (got numbers refl);
-  fewer = omega arith;
-  appends = omega arith;
-}
-listing-calls told runner claimed (Ok numbers) (Loser loser) shown got few = record {
-  lower = 0;
-  most = omega arith;
-  counts = told-as told (λ past met. inl refl) (got numbers refl);
-  fewer = omega arith;
-  appends = omega arith;
-}
-listing-calls told runner claimed (Err fault) confirmed shown got few = absurd shown
+    (older : List Entry) → journal ≡ makes lists (reply_of lists answer) ∷ older →
+    ShowsFew confirmed → Listed told journal runner (Confirming claimed) (after_listing confirmed)
+listing-calls told journal runner claimed (Ok numbers) (Keeper keeper) shown got older noted few =
+    record {
+      lower = length keeper.lower;
+      most = few;
+      counts = told-as told (λ past met. inr (record {
+        number = claimed.number;
+        numbers = numbers;
+        listed = met;
+        kept = shown.0;
+        are_lower = ap (λ (one : Kept). length one.lower) shown.1;
+      })) (got numbers refl);
+      shown = inr (ap (λ (one : Kept). length one.lower) shown.1
+          ∙ ap (λ (number : ℕ). length (filter (λ other. nat_lt other number) numbers))
+          (sym shown.0)
+          ∙ sym (ap last_lower noted));
+      fewer = omega arith;
+      appends = omega arith;
+    }
+listing-calls told journal runner claimed (Ok numbers) (Loser loser) shown got older noted few =
+    record {
+      lower = 0;
+      most = omega arith;
+      counts = told-as told (λ past met. inl refl) (got numbers refl);
+      shown = inl refl;
+      fewer = omega arith;
+      appends = omega arith;
+    }
+listing-calls told journal runner claimed (Err fault) confirmed shown got older noted few =
+    absurd shown
 
 -- ---- A recovery
 

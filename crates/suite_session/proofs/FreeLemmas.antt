@@ -2,7 +2,7 @@
 -- begin (`free-first`), its answer (`free-last`), and events of others (`free-still`, `ran-still`).
 -- Way: a session whose calls change no name has called no create (`free-uncalled`), so a report stands in
 -- none of the states that write (`stands-free`), and each turn leaves it an event fewer (`left-fewer`).
-use Rattle.std.proofs.Common.{◌≡◌, ◌⊎◌, refl, sym, ap, subst, ◌∙◌, ◌<◌, ◌≤◌, ◌+◌, ◌∷◌, [], ℕ, Bool, true, false, length, slice_get, if◌then◌else◌, inl, inr, Some, None, Option, IfSome, true≢false, arith}
+use Rattle.std.proofs.Common.{List, ◌≡◌, ◌⊎◌, refl, sym, ap, subst, ◌∙◌, ◌<◌, ◌≤◌, ◌+◌, ◌∷◌, [], ℕ, Bool, true, false, length, slice_get, if◌then◌else◌, inl, inr, Some, None, Option, IfSome, true≢false, arith}
 use Rattle.std.specs.List.{AllByRecursion}
 use Rattle.acct_outside.specs.declared.CommitStage.{CommitStage}
 use Rattle.acct_outside.specs.declared.Name.{Name}
@@ -33,6 +33,7 @@ use Rattle.suite_session.specs.NextCall.{state_call}
 use Rattle.suite_session.specs.Reports.{AnswersShown, ChangesNothing, IsFreeCall, RunsFree, report_calls}
 use Rattle.suite_session.specs.Stands.{StandsAs}
 use Rattle.suite_session.proofs.BoundLemmas.{OneMade, others-leave}
+use Rattle.acct_outside.specs.Journal.{Entry}
 use Rattle.suite_session.proofs.MetLemmas.{told-as}
 
 -- ---- A session whose calls change no name
@@ -241,21 +242,21 @@ gathering-other reading = cases (slice_get reading.left 0)
     cases (Some name) = refl
 
 -- so each turn leaves an event fewer
-left-fewer : (told : Option Past) (runner : Runner) (old new : State) → IsFreeState old →
-    CountsTo told runner old new → report_left new < report_left old
-left-fewer told runner (Looking looking) new free counts =
+left-fewer : (told : Option Past) (journal : List Entry) (runner : Runner) (old new : State) →
+    IsFreeState old → CountsTo told journal runner old new → report_left new < report_left old
+left-fewer told journal runner (Looking looking) new free counts =
     near-fewer (Looking looking) new refl (omega arith) counts
-left-fewer told runner (Reading seen) new free counts =
+left-fewer told journal runner (Reading seen) new free counts =
     near-fewer (Reading seen) new refl (omega arith) counts
-left-fewer told runner (Asking asking) new free counts =
+left-fewer told journal runner (Asking asking) new free counts =
     near-fewer (Asking asking) new refl (omega arith) counts
-left-fewer told runner (Watching watcher) new free counts =
+left-fewer told journal runner (Watching watcher) new free counts =
     on-fewer (Watching watcher) new refl refl counts
-left-fewer told runner (Gathering reading) new free counts =
+left-fewer told journal runner (Gathering reading) new free counts =
     on-fewer (Gathering reading) new (gathering-other reading) refl counts
-left-fewer told runner (Answering answer) new free counts =
+left-fewer told journal runner (Answering answer) new free counts =
     on-fewer (Answering answer) new refl refl counts
-left-fewer told runner old new free counts = absurd free
+left-fewer told journal runner old new free counts = absurd free
 
 -- ---- The turns of a report
 
@@ -274,11 +275,12 @@ one-longer events old event is = ap (λ (one : History). length one) is ∙ omeg
 
 -- a turn
 pub free-then : (runner : Runner) (old new : State) (was past : Past) → IsFreeState old →
-    (NoMemory : Type 0) → OneMade was past runner.token (state_call old) NoMemory →
-    CountsTo (Some past) runner old new → HasCalledFree runner.token old was.history →
+    (NoMemory : Type 0) (journal : List Entry) →
+    OneMade was past runner.token (state_call old) NoMemory →
+    CountsTo (Some past) journal runner old new → HasCalledFree runner.token old was.history →
     HasCalledFree runner.token new past.history
-free-then runner old new was past free NoMemory (inl made) counts called =
-    let fewer = left-fewer (Some past) runner old new free counts in
+free-then runner old new was past free NoMemory journal (inl made) counts called =
+    let fewer = left-fewer (Some past) journal runner old new free counts in
     let longer = one-longer _ _ _ made.1 in
     let within = called.within in
     record {
@@ -286,8 +288,8 @@ free-then runner old new was past free NoMemory (inl made) counts called =
           (state-free old free) called.free;
       within = omega (arith, fewer, longer, within);
     }
-free-then runner old new was past free NoMemory (inr none) counts called =
-    let fewer = left-fewer (Some past) runner old new free counts in
+free-then runner old new was past free NoMemory journal (inr none) counts called =
+    let fewer = left-fewer (Some past) journal runner old new free counts in
     let same = ap (λ (events : History). length events) none.1 in
     let within = called.within in
     record {

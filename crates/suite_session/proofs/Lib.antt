@@ -1,6 +1,7 @@
 pub mod Parts
 pub mod AnswerLemmas
 pub mod AppendsLemmas
+mod AskingLemmas
 pub mod BackingLemmas
 pub mod BeginTurns
 mod BelongingTurns

@@ -1,11 +1,12 @@
 -- Claim: a step leads on to a state to which the session's events lead (`steps-to`); and the answer of a
 -- session is its last event, which the rules permit (`answers-turn`).
 -- Way: an answer leaves the session's standing, as an event of its own after those of others.
-use Rattle.std.proofs.Common.{◌≡◌, refl, sym, ap, subst, ◌∙◌, ◌+◌, ℕ, ◌<◌, ◌≤◌, Bool, true, false, cond, inl, Option, Some, None, IfSome, Result, Ok, arith}
+use Rattle.std.proofs.Common.{◌≡◌, refl, sym, ap, subst, ◌∙◌, ◌+◌, ℕ, ◌<◌, ◌≤◌, Bool, true, false, cond, inl, List, Option, Some, None, IfSome, Result, Ok, arith}
 use Rattle.acct_outside.specs.declared.streams.SinkFault.{SinkFault}
 use Rattle.acct_outside.specs.Calls.{Call, answers, done}
 use Rattle.acct_outside.specs.History.{own_events}
 use Rattle.acct_outside.specs.Life.{Life, runs_in, running, faulted, unbegun as not_begun, ended, MayCall}
+use Rattle.acct_outside.specs.Journal.{Entry}
 use Rattle.acct_outside.specs.Others.{Admission}
 use Rattle.acct_outside.specs.Contract.{NeverAdmits, MayAnswer, Tells}
 use Rattle.suite_rules.specs.Deeds.{SuiteDeeds}
@@ -56,29 +57,30 @@ listed-fewer : (new old lower : ℕ) → new + most_lower < old + lower → lowe
 listed-fewer new old lower fewer most = omega (arith, fewer, most)
 
 -- a turn of a session that came to a state leads on to the next
-came-on : (admits : Admission) (runner : Runner) (old new : State) (was told : Option Past) →
-    CountsTo told runner old new → StagesTo (state_call old) new → LooksLess old new →
-    IfSome was (StandsFree runner old) →
+came-on : (admits : Admission) (runner : Runner) (old new : State) (was told : Option Past)
+    (journal : List Entry) → CountsTo told journal runner old new → StagesTo (state_call old) new →
+    LooksLess old new → IfSome was (StandsFree runner old) →
     MakesOne was told runner.token (state_call old) (FindsNoMemory new) →
     Grew admits runner.token 1 was told → IfSome was (λ past. NeverAdmits admits runner.token) →
     StaysTold was told runner.token old new → IfSome was (CameTo runner old) →
     IfSome told (CameTo runner new)
-came-on admits runner old new None None counts at less stands one grew own stays came = tt
-came-on admits runner old new (Some was) (Some past) counts at less free one grew own stays came =
+came-on admits runner old new None None journal counts at less stands one grew own stays came = tt
+came-on admits runner old new (Some was) (Some past) journal counts at less free one grew own stays came =
     record {
       named = came.named;
       remembers = stays.1 came.remembers;
-      called = called-then admits runner was past own grew.1 new old (FindsNoMemory new) one.1 counts
-          came.called;
+      called = called-then admits runner was past own grew.1 new old (FindsNoMemory new) journal
+          one.1 counts came.called;
       looked = looked-then runner.token old new was past (FindsNoMemory new) one.1 less came.looked;
       backed = backed-then admits runner was past own grew.1 came.backed;
-      staged = staged-then runner old new was past counts one.1 at came.staged;
+      staged = staged-then runner old new was past journal counts one.1 at came.staged;
       free = λ report. free-then runner old new was past
-          (free report (came.free report).free) (FindsNoMemory new) one.1 counts (came.free report);
+          (free report (came.free report).free) (FindsNoMemory new) journal one.1 counts
+          (came.free report);
     }
-came-on admits runner old new None (Some past) counts at less stands one grew own stays came =
+came-on admits runner old new None (Some past) journal counts at less stands one grew own stays came =
     absurd grew
-came-on admits runner old new (Some was) None counts at less stands one grew own stays came = tt
+came-on admits runner old new (Some was) None journal counts at less stands one grew own stays came = tt
 
 -- a turn of a session whose events led to a state leads to the next
 pub steps-to : (before now : Moment) (runner : Runner) (old new : State) →
@@ -90,7 +92,7 @@ steps-to before now runner old new led made =
       turns = record {
         stands = record {
           stands = turns.stands;
-          came = came-on before.admits runner old new before.told now.told made.counts
+          came = came-on before.admits runner old new before.told now.told now.journal made.counts
               made.turns.stages made.turns.looks (stands-free before runner old led.stands) made.turns.makes_one turns.grew
               (state-own before runner old led.stands) made.turns.remembers led.came;
         };
@@ -101,6 +103,7 @@ steps-to before now runner old new led made =
         risen = turns.risen;
       };
       makes_one = made.turns.makes_one;
+      asks = made.turns.asks;
     }
 
 -- a call is an append or another
@@ -125,20 +128,20 @@ call-fewer old new counts =
     omega (arith, one, calls, appends)
 
 -- and leaves fewer calls
-pub turn-fewer : (told : Option Past) (runner : Runner) (old new : State) →
-    CountsTo told runner old new →
+pub turn-fewer : (told : Option Past) (journal : List Entry) (runner : Runner) (old new : State) →
+    CountsTo told journal runner old new →
     calls_left new + appends_left new < calls_left old + appends_left old
-turn-fewer told runner (Looking looking) new counts =
+turn-fewer told journal runner (Looking looking) new counts =
     both-fewer _ _ _ _ counts.fewer counts.appends
-turn-fewer told runner (Reading seen) new counts =
+turn-fewer told journal runner (Reading seen) new counts =
     both-fewer _ _ _ _ counts.fewer counts.appends
-turn-fewer told runner (Asking asking) new counts =
+turn-fewer told journal runner (Asking asking) new counts =
     both-fewer _ _ _ _ counts.fewer counts.appends
-turn-fewer told runner (Claiming judged) new counts =
+turn-fewer told journal runner (Claiming judged) new counts =
     both-fewer _ _ _ _ counts.fewer counts.appends
-turn-fewer told runner (Confirming claimed) new counts =
+turn-fewer told journal runner (Confirming claimed) new counts =
     both-fewer _ _ _ _ (listed-fewer _ _ _ counts.fewer counts.most) counts.appends
-turn-fewer told runner old new counts = call-fewer old new counts
+turn-fewer told journal runner old new counts = call-fewer old new counts
 
 -- ---- The answer
 

@@ -7,6 +7,7 @@ use Rattle.std.proofs.Common.{◌≡◌, ◌≢◌, refl, sym, ap, subst, ◌∙
 use Rattle.std.specs.Prelude.{option_map}
 use Rattle.std.proofs.lemmas.Slice.Eq.{bytes_eq-Decides}
 use Rattle.acct_text.specs.Bytes.{Bytes}
+use Rattle.acct_outside.specs.Journal.{Entry}
 use Rattle.acct_outside.specs.declared.CommitStage.{CommitStage}
 use Rattle.acct_outside.specs.declared.FolderFault.{FolderFault}
 use Rattle.acct_outside.specs.declared.Name.{Name}
@@ -412,14 +413,14 @@ some-call (Gathering reading) = omega arith
 some-call (Answering answer) = omega arith
 
 -- the first claim; no turn comes after the answer
-pub staged-then : (runner : Runner) (old next : State) (was past : Past) →
-    CountsTo (Some past) runner old next →
+pub staged-then : (runner : Runner) (old next : State) (was past : Past) (journal : List Entry) →
+    CountsTo (Some past) journal runner old next →
     OneMade was past runner.token (state_call old) (FindsNoMemory next) →
     StagesTo (state_call old) next → StagesAs old (standing runner.token was.history) →
     StagesAs next (standing runner.token past.history)
-staged-then runner (Answering answer) next was past counts made at held =
+staged-then runner (Answering answer) next was past journal counts made at held =
     let none = counts.calls in let some = some-call next in absurd (omega (arith, none, some))
-staged-then runner old next was past counts made at held =
+staged-then runner old next was past journal counts made at held =
     turned-as runner.token (staged_in old) (state_call old) next was past made (stage-of old) at
     held
 

@@ -35,6 +35,7 @@ use Rattle.suite_session.specs.Looks.{LooksLess}
 use Rattle.suite_session.specs.NextCall.{state_call}
 use Rattle.suite_session.specs.Telling.{IsToTell, MayFollow}
 use Rattle.suite_session.specs.Stands.{Extends, FindsNoMemory, Gives, MakesOne, MayGive, HasLeft, StandsAs, AnswersWith, LeavesWith, IsOutside, IsStopped, StagesTo, TellsOutside, Turns}
+use Rattle.suite_session.proofs.AskingLemmas.{asks-once}
 use Rattle.suite_session.proofs.BackingLemmas.{IsTurnCall, turn-no-answer, turn-backs-then}
 use Rattle.suite_session.proofs.CauseLemmas.{IsMetAs, IsPlain, answers-fault, fault-failed, fault-plain, fault-stage, given-cause, plain-shown, plain-undecided, told-cause, told-met, told-plain, told-says, told-stage}
 use Rattle.suite_session.proofs.GrowsLemmas.{tells-grow, grew-extends}
@@ -288,6 +289,7 @@ module _ (before now : Moment) (runner : Runner) (commit : CommitStage) (Held : 
           (FindsNoMemory state))
           (sym is) (makes-one before now runner commit Held stands token same call no_answer Shows
           made old state meets);
+      asks = asks-once before now token call Shows made Held old state is meets;
       remembers = stays-told before now runner commit Held stands token same call no_answer Shows
           made old state meets leads;
       stages = subst (λ one. StagesTo one state) (sym is) staged;

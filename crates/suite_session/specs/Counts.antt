@@ -1,9 +1,10 @@
 -- What each turn leaves of the calls that a session makes at most: an append fewer where it makes one, and
 -- else another call fewer, with as many more as the second listing shows lower locks.
-use Rattle.std.specs.Prelude.{◌≡◌, ◌⊎◌, ⊤, ◌+◌, ◌<◌, ◌≤◌, ℕ, if◌then◌else◌, List, nat_lt, filter, length, Option, IfSome}
+use Rattle.std.specs.Prelude.{◌≡◌, ◌⊎◌, ◌∷◌, ⊤, ◌+◌, ◌<◌, ◌≤◌, ℕ, if◌then◌else◌, List, nat_lt, filter, length, Option, IfSome}
 use Rattle.acct_outside.specs.Tokens.{Token}
 use Rattle.acct_outside.specs.Folder.{greatest}
 use Rattle.acct_outside.specs.Calls.{Call, lists}
+use Rattle.acct_outside.specs.Journal.{Entry, makes, showed}
 use Rattle.acct_outside.specs.History.{History}
 use Rattle.acct_outside.specs.Moment.{Past}
 use Rattle.lock_steps.specs.Stands.{HasMade}
@@ -26,6 +27,15 @@ pub record ShowsLower (token : Token) (history : History) (lower : ℕ) : Type 0
 -- so many lower locks, which the history shows, or none
 abbrev pub CountsLower : Token → History → ℕ → Type 0
 CountsLower token history lower = (lower ≡ 0) ⊎ ShowsLower token history lower
+
+-- how many lower locks than the greatest a listing showed
+abbrev pub lower_in : List ℕ → ℕ
+lower_in numbers = length (filter (λ other. nat_lt other (greatest numbers)) numbers)
+
+-- how many the call showed that the folder was asked for last
+abbrev pub last_lower : List Entry → ℕ
+last_lower (makes call (showed numbers) ∷ older) = lower_in numbers
+last_lower journal = 0
 
 -- the second listing of a session that takes a lock is still to come
 abbrev pub IsToList : State → Type 0
@@ -56,20 +66,24 @@ pub record Nears (old new : State) : Type 0 where
   pub appends : appends_left new ≤ appends_left old
   pub next : IsToList new ⊎ (calls_left new ≤ watching_calls)
 
--- the listing leaves a call fewer, with the lower locks that it shows, and no others
-pub record Listed (told : Option Past) (runner : Runner) (old new : State) : Type 0 where
+-- the listing, which is the last call in this journal, leaves a call fewer, with the lower locks that it
+-- shows, and no others
+pub record Listed (told : Option Past) (journal : List Entry) (runner : Runner) (old new : State)
+    : Type 0 where
   pub lower : ℕ
   pub most : lower ≤ most_lower
   pub counts : IfSome told (λ past. CountsLower runner.token past.history lower)
+  pub shown : (lower ≡ 0) ⊎ (lower ≡ last_lower journal)
   pub fewer : calls_left new + most_lower < calls_left old + lower
   pub appends : appends_left new ≤ appends_left old
 
 -- what a turn leaves of the calls: one fewer, after the second listing with the lower locks that it shows.
 -- The calls up to that listing are no appends.
-abbrev pub CountsTo : Option Past → Runner → State → State → Type 0
-CountsTo told runner (Looking looking) new = Nears (Looking looking) new
-CountsTo told runner (Reading seen) new = Nears (Reading seen) new
-CountsTo told runner (Asking asking) new = Nears (Asking asking) new
-CountsTo told runner (Claiming judged) new = Nears (Claiming judged) new
-CountsTo told runner (Confirming claimed) new = Listed told runner (Confirming claimed) new
-CountsTo told runner old new = LeavesFewer old new
+abbrev pub CountsTo : Option Past → List Entry → Runner → State → State → Type 0
+CountsTo told journal runner (Looking looking) new = Nears (Looking looking) new
+CountsTo told journal runner (Reading seen) new = Nears (Reading seen) new
+CountsTo told journal runner (Asking asking) new = Nears (Asking asking) new
+CountsTo told journal runner (Claiming judged) new = Nears (Claiming judged) new
+CountsTo told journal runner (Confirming claimed) new =
+    Listed told journal runner (Confirming claimed) new
+CountsTo told journal runner old new = LeavesFewer old new

@@ -31,7 +31,8 @@ use Rattle.suite_answers.specs.Reasons.{stage_of}
 use Rattle.suite_session.specs.declared.state.State.{State}
 use Rattle.suite_session.specs.declared.state.State.TheVariants.{Looking, Reading, Asking, Claiming, Confirming, Withdrawing, ReadingIntent, Recovering, Moving, Loading, BackingUp, Committing, Installing, Unlocking, Freeing, Watching, Gathering, Answering}
 use Rattle.suite_session.specs.Runner.{IsRead, Runner}
-use Rattle.acct_outside.specs.Moment.{Past, Moment, Narrows}
+use Rattle.acct_outside.specs.Journal.{Reply, makes, was_refused}
+use Rattle.acct_outside.specs.Moment.{Past, Moment, Narrows, Notes}
 use Rattle.acct_outside.specs.declared.CommitStage.TheVariants.{Before, Committed}
 use Rattle.suite_session.specs.Moment.{At}
 use Rattle.suite_session.specs.Answers.{answer_on, IsAnswerOn, given_for, memory_answer, IsTold, Says}
@@ -211,6 +212,11 @@ abbrev pub FindsNoMemory : State → Type 0
 FindsNoMemory (Answering answer) = IsMemory answer.outcome.cause
 FindsNoMemory state = ⊥
 
+-- the state answers
+abbrev pub IsAnswering : State → Type 0
+IsAnswering (Answering answer) = ⊤
+IsAnswering state = ⊥
+
 -- the history is longer, where one is told
 abbrev pub Extends : Option Past → Option Past → Type 0
 Extends before now =
@@ -238,6 +244,13 @@ MakesOne before now token call NoMemory = WhereTold before now (λ first old new
     ≡ record { token = token; call = call; result = result } ∷ own_events token old))
     ⊎ (NoMemory × (own_events token new ≡ own_events token old)))
 
+-- The folder was asked for this call alone, and noted it with what it came to; this is so where it was
+-- refused: where it failed, or found no memory.
+pub record AsksOnce (before now : Moment) (call : Call) (WhereRefused : Type 0) : Type 0 where
+  pub reply : Reply
+  pub noted : Notes before now (makes call reply)
+  pub refused : reply ≡ was_refused → WhereRefused
+
 -- what the session has met is to be told in the one state, so what it has met since in the other
 abbrev pub StaysTold : Option Past → Option Past → Token → State → State → Type 0
 StaysTold before now token old new = WhereTold before now (λ first older newer.
@@ -255,10 +268,12 @@ StagesTo (appends name piece) state = HasStagedAt name state
 StagesTo call state = ⊤
 
 -- One turn of the runner from a state to another: it makes the call of the old state, or none where there
--- was no memory, drops nothing that it has met, and looks at nothing once more than it may.
+-- was no memory, drops nothing that it has met, and looks at nothing once more than it may. That call is
+-- all that it asks of the folder, and where it is refused the session answers next.
 pub record Turns (before now : Moment) (runner : Runner) (old new : State) : Type 0 where
   pub turns : TurnsTo before now runner.token 1 (StandsAs now runner new) (TellsOutside new)
   pub makes_one : MakesOne before.told now.told runner.token (state_call old) (FindsNoMemory new)
+  pub asks : AsksOnce before now (state_call old) (IsAnswering new)
   pub remembers : StaysTold before.told now.told runner.token old new
   pub stages : StagesTo (state_call old) new
   pub looks : LooksLess old new

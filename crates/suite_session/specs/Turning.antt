@@ -1,5 +1,5 @@
 -- What one turn of a session does: its begin, a step, or its answer; and what it leaves to others.
-use Rattle.std.specs.Prelude.{◌≡◌, [], ◌∷◌, ℕ, Option, IfSome, Result, Err}
+use Rattle.std.specs.Prelude.{◌≡◌, [], ◌∷◌, ⊤, ℕ, Option, IfSome, Result, Err}
 use Rattle.acct_outside.specs.Calls.{Call, answers, begins, done}
 use Rattle.acct_outside.specs.Tokens.{Token}
 use Rattle.acct_outside.specs.History.{History, own_events}
@@ -18,7 +18,7 @@ use Rattle.suite_session.specs.Answers.{IsTold, Says, after_streams, memory_answ
 use Rattle.suite_session.specs.Counts.{CountsTo}
 use Rattle.suite_session.specs.Locking.{cause_of_fault}
 use Rattle.suite_session.specs.NextCall.{state_call}
-use Rattle.suite_session.specs.Stands.{FindsNoMemory, IsOutside, MakesOne, MayGive, TellsOutside, Turns, TurnsTo}
+use Rattle.suite_session.specs.Stands.{AsksOnce, FindsNoMemory, IsAnswering, IsOutside, MakesOne, MayGive, TellsOutside, Turns, TurnsTo}
 use Rattle.suite_session.specs.Belongs.{AreApart, Belongs, CameTo, HasEnded, IsLedTo}
 
 -- ---- The begin
@@ -66,40 +66,45 @@ GaveLeft before now runner answer = (given : Answer) (put : Result (Unit {0}) Si
 
 -- ---- Each turn
 
--- the folder tells what it told
+-- the folder tells what it told, and was asked nothing
 pub record Stays (before now : Moment) : Type 0 where
   pub told : now.told ≡ before.told
   pub narrows : Narrows before.admits now.admits
   pub faults : now.faults ≡ before.faults
+  pub journal : now.journal ≡ before.journal
 
 -- One turn of a session that stands in a state, and doesn't answer there, to the next: it does what a turn
 -- may do, and leaves a call fewer.
 pub record TakesTurn (before now : Moment) (runner : Runner) (old new : State) : Type 0 where
   pub turns : Turns before now runner old new
-  pub counts : CountsTo now.told runner old new
+  pub counts : CountsTo now.told now.journal runner old new
 
 -- A turn of the session of a runner leads to this state. It makes this one call, or none where there was
--- no memory.
+-- no memory. That call is all that it asks of the folder, and where it is refused the session answers next.
 pub record StepsTo (before now : Moment) (runner : Runner) (call : Call) (state : State)
     : Type 0 where
   pub turns : TurnsTo before now runner.token 1 (IsLedTo now runner state) (TellsOutside state)
   pub makes_one : MakesOne before.told now.told runner.token call (FindsNoMemory state)
+  pub asks : AsksOnce before now call (IsAnswering state)
 
 -- One turn of a session: its begin, a step, or its answer, by the call that it makes next
 -- (specs/NextCall). A begin gives a new token; one that gave none is told as a fault, and leaves nothing
--- to call.
+-- to call. A step leaves a call fewer.
 abbrev pub SessionTurns : Moment → Moment → Phase → Phase → Type 0
 SessionTurns before now (Waiting asked) (Begun runner state) =
     (runner.asked ≡ asked) × StepsTo before now runner (begins asked.command) state
-    × IsNew before.told runner.token
+    × IsNew before.told runner.token × IsFirst runner state
 SessionTurns before now (Waiting asked) (Unbegun tool answer) = (tool ≡ asked.request.tool)
     × TurnsTo before now [] 1 (IsUnbegun asked before now answer) (IsOutside answer.outcome.cause)
+    × AsksOnce before now (begins asked.command) ⊤
 SessionTurns before now (Begun runner state) (Begun same next) =
     (same ≡ runner) × StepsTo before now runner (state_call state) next
+    × CountsTo now.told now.journal runner state next
 SessionTurns before now (Begun runner state) (Over same answer) = (same ≡ runner)
     × (state ≡ Answering answer)
     × TurnsTo before now runner.token 1 (GaveLeft before now runner answer) ⊥
     × MakesOne before.told now.told runner.token (state_call state) ⊥
+    × AsksOnce before now (state_call state) ⊥
 SessionTurns before now (Over runner answer) (Over same given) =
     (same ≡ runner) × (given ≡ answer) × Stays before now
 SessionTurns before now (Unbegun tool answer) (Unbegun same given) =

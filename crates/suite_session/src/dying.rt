@@ -1,6 +1,6 @@
 // The death of a session in its next call, in a folder in memory.
 ghost use Rattle.std.specs.Prelude.{◌≡◌, OnErr, OnOk};
-ghost use Rattle.memory_folder.specs.Memory.{faults_of, moment_of, past_of};
+ghost use Rattle.memory_folder.specs.Memory.{faults_of, journal_of, moment_of, past_of};
 ghost use Rattle.suite_session.specs.Belongs.{Belongs};
 ghost use Rattle.suite_session.specs.Dying.{SessionDies};
 ghost use Rattle.suite_session.specs.Stands.{StaysOurs};
@@ -29,6 +29,7 @@ impl<T: Tools> Session<T> {
         ensures kept { OnErr result (self.new ≡ self.old) }
         ensures told { OnErr result (past_of folder.new ≡ past_of folder.old) }
         ensures faults { faults_of folder.new ≡ faults_of folder.old }
+        ensures journal { journal_of folder.new ≡ journal_of folder.old }
         ensures lawful { StaysOurs (moment_of folder.old) (moment_of folder.new) }
         ensures others { KeepsOthers (moment_of folder.old) (moment_of folder.new)
             self.old self.new }
@@ -59,6 +60,7 @@ fn die_in(
         (Phase.Begun runner.now state.now) (Phase.Begun runner.now state.now)) }
     ensures told { OnErr result (past_of folder.new ≡ past_of folder.old) }
     ensures faults { faults_of folder.new ≡ faults_of folder.old }
+    ensures journal { journal_of folder.new ≡ journal_of folder.old }
     ensures lawful { StaysOurs (moment_of folder.old) (moment_of folder.new) }
     ensures others { KeepsOthers (moment_of folder.old) (moment_of folder.new)
         (Phase.Begun runner.now state.now) (Phase.Begun runner.now state.now) }

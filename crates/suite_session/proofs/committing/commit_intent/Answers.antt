@@ -18,6 +18,7 @@ use Rattle.suite_session.specs.Stands.{FindsNoMemory, MakesOne, StagesTo}
 use Rattle.suite_session.specs.declared.state.State.TheVariants.{Committing, Installing}
 use Rattle.suite_session.proofs.CallsLemmas.{answers-fewer, committing-some}
 use Rattle.suite_session.proofs.CommitCalls.{committed-calls}
+use Rattle.suite_session.proofs.AskingLemmas.{asks-once}
 use Rattle.suite_session.proofs.committing.commit_intent.Goals as goal
 
 pub returns-in-Ok : goal.returns-in-Ok
@@ -56,6 +57,10 @@ returns-in-Ok g c = record {
             (renames IntentStage Intent) tt _ c.in-Ok.ensures.call
             (Committing c.args.staged c.args.answer) (Installing c.in-Ok.installing c.args.answer)
             meets);
+        asks = asks-once before now _ (renames IntentStage Intent) _ c.in-Ok.ensures.call
+            (HasStagedIntent c.args.staged) (Committing c.args.staged c.args.answer)
+            (Installing c.in-Ok.installing c.args.answer)
+            (commits-whole c.args.staged c.requires.whole) meets;
         remembers = stays-told before now c.args.runner.now Before
             (HasStagedIntent c.args.staged) c.requires.stands.stands _ c.requires.stands.same
             (renames IntentStage Intent) tt _ c.in-Ok.ensures.call
@@ -117,6 +122,9 @@ returns-in-Err g c = record {
             (HasStagedIntent c.args.staged) c.requires.stands.stands _ c.requires.stands.same
             (renames IntentStage Intent) tt _ c.in-Err.ensures.call
             (Committing c.args.staged c.args.answer) c.given_up.result meets);
+        asks = asks-once before now _ (renames IntentStage Intent) _ c.in-Err.ensures.call
+            (HasStagedIntent c.args.staged) (Committing c.args.staged c.args.answer)
+            c.given_up.result (commits-whole c.args.staged c.requires.whole) meets;
         remembers = stays-told before now c.args.runner.now Before
             (HasStagedIntent c.args.staged) c.requires.stands.stands _ c.requires.stands.same
             (renames IntentStage Intent) tt _ c.in-Err.ensures.call

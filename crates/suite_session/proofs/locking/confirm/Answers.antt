@@ -35,11 +35,13 @@ returns-in-Ok g c = record {
       let before = g.F.Folder.moment c.args.folder.now in
       let now = g.F.Folder.moment c.confirm.new.folder in
       rw c.after_listing.ensures.next
-      (listing-calls now.told c.args.runner.now c.args.claimed c.in-Ok.ensures.call.answer
+      (listing-calls now.told now.journal c.args.runner.now c.args.claimed
+      c.in-Ok.ensures.call.answer
       c.in-Ok.confirmed c.in-Ok.ensures.call.shown
       (got before now c.args.runner.now Before (HasMade c.args.claimed) c.requires.1
       c.args.claimed.token c.requires.0 (lists) tt _ (λ result stood. refl)
-      c.in-Ok.ensures.call) c.after_listing.ensures.few);
+      c.in-Ok.ensures.call) (before.journal) c.in-Ok.ensures.call.noted
+      c.after_listing.ensures.few);
 }
 
 pub returns-in-Err : goal.returns-in-Err
@@ -76,7 +78,8 @@ returns-in-Err g c = record {
       (λ fault. c.confirm.ensures.faults.failed
       (c.in-Err.is ∙ ap Err (end-failed c.in-Err.end fault))) tt;
   counts =
-      answers-listed (g.F.Folder.moment c.confirm.new.folder).told c.args.runner.now c.args.claimed
+      answers-listed (g.F.Folder.moment c.confirm.new.folder).told
+      (g.F.Folder.moment c.confirm.new.folder).journal c.args.runner.now c.args.claimed
       _ _
       c.stopped.result c.stopped.ensures;
 }

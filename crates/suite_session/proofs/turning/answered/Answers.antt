@@ -4,6 +4,7 @@ use Rattle.acct_outside.specs.Contract.{Tells}
 use Rattle.suite_session.specs.Runner.{IsRead, Runner}
 use Rattle.suite_session.proofs.SessionTurns.{answer-one, answers-turn}
 use Rattle.suite_session.proofs.StreamLemmas.{left-given}
+use Rattle.acct_outside.specs.Journal.{was_done}
 use Rattle.suite_session.proofs.turning.answered.Goals as goal
 
 pub returns-clause-turns : goal.returns-clause-turns
@@ -23,4 +24,9 @@ returns-clause-turns g c =
           (left-given before c.args.runner c.args.answer c.requires).may.may_answer
           (subst (λ (one : Runner). Tells before now one.token
           (answers c.args.answer.outcome.status) (Ok tt)) c.runner.view_is c.answered.ensures.told),
+      record {
+        reply = was_done;
+        noted = c.answered.ensures.noted;
+        refused = λ is. absurd (cc is);
+      },
     )

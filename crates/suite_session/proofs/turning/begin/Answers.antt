@@ -1,7 +1,9 @@
 use Rattle.std.proofs.Common.{refl, ap, subst, ◌∙◌, Ok, Err}
-use Rattle.acct_outside.specs.Calls.{Command}
+use Rattle.acct_outside.specs.Calls.{Command, begins}
 use Rattle.acct_outside.specs.Contract.{WhereTold, TellsBegin}
 use Rattle.suite_session.proofs.BeginTurns.{asked-command, begin-new, begins-turn, unbegun}
+use Rattle.acct_outside.specs.Journal.{makes, was_done, was_refused}
+use Rattle.acct_outside.specs.Moment.{Notes}
 use Rattle.suite_session.proofs.turning.begin.Goals as goal
 
 pub returns-in-Ok-clause-turns : goal.returns-in-Ok-clause-turns
@@ -16,8 +18,11 @@ returns-in-Ok-clause-turns g c =
       begins-turn before now (record { token = c.in-Ok.token; asked = c.args.asked }) tells
           c.in-Ok.ensures.own c.begin.ensures.call.narrows
           c.begin.ensures.call.faults.never_falls c.first_state-state.result
-          c.first_state-state.ensures,
+          c.first_state-state.ensures
+          (subst (λ (command : Command). Notes before now (makes (begins command) was_done)) same
+          c.in-Ok.ensures.call.noted),
       begin-new before.admits c.args.asked.command c.in-Ok.token before.told now.told tells,
+      c.first_state-state.ensures,
     )
 
 pub returns-in-Err-clause-turns : goal.returns-in-Err-clause-turns
@@ -33,4 +38,10 @@ returns-in-Err-clause-turns g c =
           c.unbegun.result c.unbegun.ensures
           c.begin.ensures.call.narrows c.begin.ensures.call.faults.never_falls
           (λ is. c.begin.ensures.call.faults.failed (c.in-Err.is ∙ ap Err is)),
+      record {
+        reply = was_refused;
+        noted = subst (λ (command : Command). Notes before now (makes (begins command) was_refused))
+            same c.in-Err.ensures.call.noted;
+        refused = λ is. tt;
+      },
     )

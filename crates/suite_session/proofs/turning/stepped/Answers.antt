@@ -23,8 +23,10 @@ returns-in_default g c =
         refl,
         steps-to before now c.args.runner c.args.state c.go_on-next.result
             (going-led before c.args.runner c.args.state apart c.requires) c.go_on-next.ensures,
+        c.go_on-next.ensures.counts,
       );
-      nearer = λ going. turn-fewer now.told c.args.runner c.args.state c.go_on-next.result
+      nearer = λ going. turn-fewer now.told now.journal c.args.runner c.args.state
+          c.go_on-next.result
           c.go_on-next.ensures.counts;
       ends = λ some. subst (λ (given : Option Answer). IsSome given)
           (none-given c.args.state apart) some;

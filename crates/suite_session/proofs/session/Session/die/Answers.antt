@@ -16,6 +16,7 @@ returns-in-Begun g c =
       kept = on-err c.die_in.result _ refl;
       told = c.die_in.ensures.told;
       faults = c.die_in.ensures.faults;
+      journal = c.die_in.ensures.journal;
       lawful = c.die_in.ensures.lawful;
       others = subst (λ (one : Phase). KeepsOthers (moment_of c.args.folder.now)
           (moment_of c.die_in.new.folder) one one) is c.die_in.ensures.others;
