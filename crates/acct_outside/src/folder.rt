@@ -1,5 +1,6 @@
 // The folder of the account files as a session sees it.
 ghost use Rattle.std.specs.Prelude.{◌≡◌, All, IfOk, IsErrOf, Ok};
+ghost use Rattle.std.specs.List.Sorted.{IsNonDecreasing};
 ghost use Rattle.acct_outside.specs.Calls.{asks, creates, writes, appends, renames, removes, answers};
 ghost use Rattle.acct_outside.specs.Moment.{Moment};
 ghost use Rattle.acct_outside.specs.Contract.{IsName, IsLockNumber, NeverAdmits, MayAct, MayAnswer, EntersFolder, BeginsSession, ListsLocks, ReadsFolder, CallsFolder, IsWithinLimit};
@@ -34,7 +35,8 @@ pub trait Folder {
     fn locks(&mut self, by: &Token) -> Result<Vec<u64>, FolderFault>
         requires { MayAct (moment self.old) by.now }
         ensures call { ListsLocks (moment self.old) (moment self.new) by.now result }
-        ensures numbers { IfOk result (λ numbers. All IsLockNumber numbers.items) };
+        ensures numbers { IfOk result (λ numbers. All IsLockNumber numbers.items) }
+        ensures ascending { IfOk result (λ numbers. IsNonDecreasing numbers.items) };
 
     /// What stands at the name: `TooLarge` exactly where it has more bytes than the limit.
     fn read(&mut self, by: &Token, name: Name, limit: u64) -> Result<Found, FolderFault>

@@ -1,5 +1,6 @@
 // The history of a folder in memory, with what stands after it and the sessions that run.
 ghost use Rattle.std.specs.Prelude.{◌≡◌, ◌↔◌, ◌+◌, ◌≤◌, [], Some, None, All, ◌&&◌, not, bytes_eq, IfOk, OnOk, OnErr, true, false, vec_len, vec_capacity};
+ghost use Rattle.std.specs.List.Sorted.{IsNonDecreasing};
 ghost use Rattle.std.proofs.Props.{props};
 ghost use Rattle.acct_outside.specs.History.{after, own_events};
 ghost use Rattle.acct_outside.specs.Life.{is_running};
@@ -78,6 +79,7 @@ impl Log {
         ensures value { IfOk result
             (λ numbers. numbers.items ≡ (folder_after (past_in self.old)).locks) }
         ensures numbers { IfOk result (λ numbers. All IsLockNumber numbers.items) }
+        ensures ascending { IfOk result (λ numbers. IsNonDecreasing numbers.items) }
         ensures err { OnErr result (past_in self.new ≡ past_in self.old) }
     {
         let numbers = self.store.locks(alloc)?;

@@ -1,6 +1,7 @@
 // The calls of a folder in memory. Each is noted and counted, then fails where a mishap is planned for it,
 // and else finds its answer and records its event.
 ghost use Rattle.std.specs.Prelude.{◌≡◌, ◌↔◌, [], All, IfOk, IsOk, Ok, false};
+ghost use Rattle.std.specs.List.Sorted.{IsNonDecreasing};
 ghost use Rattle.acct_outside.specs.Calls.{begins, lists, reads, asks, creates, writes, appends, renames, removes, answers};
 ghost use Rattle.acct_outside.specs.Faults.{CountsFailure};
 ghost use Rattle.acct_outside.specs.Journal.{enters, listing_reply, makes, plain_reply, was_done};
@@ -63,6 +64,7 @@ impl Folder for MemoryFolder {
     fn locks(&mut self, by: &Token) -> Result<Vec<u64>, FolderFault>
         ensures told { TellsIn self.old self.new by.now lists (locks_result result) }
         ensures numbers { IfOk result (λ numbers. All IsLockNumber numbers.items) }
+        ensures ascending { IfOk result (λ numbers. IsNonDecreasing numbers.items) }
         ensures faults { CountsFailure FolderFault.Failed (faults_of self.old)
             (faults_of self.new) result }
         ensures counted { IsCounted self.old self.new result }

@@ -1,5 +1,6 @@
 // What stands in a folder in memory: its files, and the numbers of the locks among them.
 ghost use Rattle.std.specs.Prelude.{◌≡◌, ◌↔◌, ◌<◌, ◌≤◌, ℕ, Some, None, List, All, IfOk, IsTrue, OnOk, OnErr, if◌then◌else◌, vec_len, vec_capacity};
+ghost use Rattle.std.specs.List.Sorted.{IsNonDecreasing};
 ghost use Rattle.std.specs.Option.{option_copied, is_some};
 ghost use Rattle.acct_outside.specs.declared.Name.{Name};
 ghost use Rattle.acct_outside.specs.declared.Name.TheVariants.{Lock};
@@ -79,6 +80,7 @@ impl Store {
     pub(crate) fn locks(&self, alloc: Global) -> Result<Vec<u64>, AllocError>
         ensures value { IfOk result (λ numbers. numbers.items ≡ (folder_in self.now).locks) }
         ensures numbers { IfOk result (λ numbers. All IsLockNumber numbers.items) }
+        ensures ascending { IfOk result (λ numbers. IsNonDecreasing numbers.items) }
     {
         Vec::from_slice(alloc, &self.locks)
     }
