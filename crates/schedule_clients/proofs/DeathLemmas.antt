@@ -80,10 +80,11 @@ module _ (deeds : SuiteDeeds) (are : AreOfTools deeds) where
 
     -- where nothing came, it is as it was
     same-is : (session : Phase) → now.past ≡ before.past → now.faults ≡ before.faults →
-        new ≡ session → BelongsOrDied deeds before session → BelongsOrDied deeds now new
-    same-is session past faults is was = subst (BelongsOrDied deeds now) (sym is)
+        now.journal ≡ before.journal → new ≡ session → BelongsOrDied deeds before session →
+        BelongsOrDied deeds now new
+    same-is session past faults journal is was = subst (BelongsOrDied deeds now) (sym is)
         (subst (λ (told : Telling). BelongsOrDied deeds told session)
-        (telling-same before now past faults) was)
+        (telling-same before now past faults journal) was)
 
     -- one that belonged and dies has promised so
     dies-is : (effect : CallEffect) (dying : Phase) → has_ended before dying ≡ false →
@@ -113,9 +114,9 @@ module _ (deeds : SuiteDeeds) (are : AreOfTools deeds) where
         inr (subst (DiedPromising deeds now) (sym dies.dies.0)
         (died-on before now (Begun runner state) longer died))
     dies-is effect (Over runner answer) going dies was =
-        same-is (Over runner answer) dies.dies.1 dies.faults dies.dies.0 was
+        same-is (Over runner answer) dies.dies.1 dies.faults dies.journal dies.dies.0 was
     dies-is effect (Unbegun tool answer) going dies was =
-        same-is (Unbegun tool answer) dies.dies.1 dies.faults dies.dies.0 was
+        same-is (Unbegun tool answer) dies.dies.1 dies.faults dies.journal dies.dies.0 was
 
     -- whatever it does
     own-is : (step : Step) → Acts step before now old new → BelongsOrDied deeds before old →

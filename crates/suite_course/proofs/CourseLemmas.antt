@@ -29,6 +29,7 @@ use Rattle.suite_session.specs.Turning.{IsNew, IsUnbegun, SessionTurns}
 use Rattle.suite_session.proofs.BelongsLemmas.{without-token}
 use Rattle.suite_session.proofs.GrowsLemmas.{grew-extends, grew-none, grew-nothing, grew-then, second-empty}
 use Rattle.suite_course.specs.Course.{Comes, Reached}
+use Rattle.suite_course.proofs.AskedLemmas.{asked-turn}
 
 -- ---- One after another
 
@@ -197,6 +198,8 @@ comes-turn asked entry between now (Waiting question) (Begun runner state) comes
     let both = turns-then entry between now runner.token 0 1 first turns.1.turns in
     record {
       made = 1;
+      asks = asked-turn entry between now (Waiting question) (Begun runner state) comes.asks none
+          turns;
       turns = turns-as entry now runner.token 1
           (λ stands. (
             turns.0 ∙ comes.turns.stands.0,
@@ -210,6 +213,8 @@ comes-turn asked entry between now (Waiting question) (Unbegun tool answer) come
     let both = turns-then entry between now [] 0 1 comes.turns turns.1 in
     record {
       made = 1;
+      asks = asked-turn entry between now (Waiting question) (Unbegun tool answer) comes.asks none
+          turns;
       turns = turns-as entry now [] 1
           (λ unbegun. (
             turns.0 ∙ ap (λ (one : Question). one.request.tool) comes.turns.stands.0,
@@ -222,6 +227,8 @@ comes-turn asked entry between now (Begun runner state) (Begun same next) comes 
     let both = turns-then entry between now runner.token comes.made 1 comes.turns turns.1.turns in
     record {
       made = comes.made + 1;
+      asks = asked-turn entry between now (Begun runner state) (Begun same next) comes.asks none
+          turns;
       turns = subst (λ (one : Runner). TurnsTo entry now one.token (comes.made + 1)
           (Reached asked entry now (Begun same next)) (TellsOutside next)) (sym turns.0)
           (turns-as entry now runner.token (comes.made + 1)
@@ -275,6 +282,14 @@ pub comes-first : (asked : Question) (entry : Moment) (phase : Phase) → phase 
 comes-first asked entry phase is =
     subst (λ (one : Phase). Comes asked entry entry one) (sym is) (record {
       made = 0;
+      asks = record {
+        calls = [];
+        parts = refl;
+        are_calls = tt;
+        stops = tt;
+        goes = λ going. tt;
+        within = refl;
+      };
       turns = record {
         stands = (refl, refl);
         grew = grew-nothing entry.admits [] entry.told;

@@ -98,14 +98,14 @@ streams-answer (Err fault) (Over runner answer) some = refl
 streams-answer (Err fault) (Unbegun tool answer) some = refl
 
 -- the streams leave a session that answers as one that answers so
-answers-after : (put : Result (Unit {0}) SinkFault) (runner : Runner) (given : Answer) →
+pub answers-after : (put : Result (Unit {0}) SinkFault) (runner : Runner) (given : Answer) →
     phase_after put (Begun runner (Answering given))
     ≡ Begun runner (Answering (after_streams put given))
 answers-after (Ok unit) runner given = refl
 answers-after (Err fault) runner given = refl
 
 -- a command that didn't begin has the answer behind the streams, and still didn't begin
-unbegun-after : (put : Result (Unit {0}) SinkFault) (tool : Tool) (given : Answer) →
+pub unbegun-after : (put : Result (Unit {0}) SinkFault) (tool : Tool) (given : Answer) →
     phase_after put (Unbegun tool given) ≡ Unbegun tool (after_streams put given)
 unbegun-after (Ok unit) tool given = refl
 unbegun-after (Err fault) tool given = refl

@@ -5,6 +5,8 @@ mod AloneLocks
 mod AloneStaging
 mod AloneStays
 mod AloneSteps
+mod AskedEnd
+mod AskedLemmas
 mod BackupLemmas
 pub mod CompleteLemmas
 mod CourseLemmas
@@ -17,6 +19,7 @@ mod OpenLemmas
 mod SuccessLemmas
 mod PlaceLemmas
 pub mod RanLemmas
+mod StagingSteps
 mod StreamsLemmas
 pub mod SuppliesLemmas
 mod TurnedLemmas

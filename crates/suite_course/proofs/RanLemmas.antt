@@ -36,6 +36,7 @@ use Rattle.suite_session.proofs.Parts.{StaysOursWhere}
 use Rattle.suite_session.specs.Stands.{Extends, IsDiskFault, IsOutside, TurnsTo}
 use Rattle.suite_session.proofs.GrowsLemmas.{grew-extends, grew-nothing}
 use Rattle.suite_course.specs.Streams.{Streams, Serves}
+use Rattle.suite_course.specs.Asked.{AsksThere}
 use Rattle.suite_course.specs.Course.{AnsweredAs, Finished}
 use Rattle.suite_course.specs.Shows.{IsAlwaysSettled, Shows}
 use Rattle.suite_course.specs.Top.{Answered, ExtendsLawfully, HasRun, IfLawful, Ran, RunsOrNot}
@@ -185,8 +186,8 @@ module _ (asked : Question) (entry now : Moment) where
 -- the claim
 pub finished-ran : (asked : Question) (entry now : Moment) (was holds : Streams)
     (outcome : Outcome) → Finished asked entry now was holds outcome →
-    Ran asked entry now was holds outcome
-finished-ran asked entry now was holds outcome finished =
+    AsksThere asked entry.journal now.journal → Ran asked entry now was holds outcome
+finished-ran asked entry now was holds outcome finished asks =
     let turns = finished.turns in
     let extends = grew-extends entry.admits finished.token finished.made entry.told now.told
     turns.grew in
@@ -204,6 +205,7 @@ finished-ran asked entry now was holds outcome finished =
       never_falls = turns.never_falls;
       given = finished.given;
       session = session;
+      asks = asks;
       lawful = lawful;
       settles = where-lawful asked entry now
           (λ deeds first old new. IsAlwaysSettled deeds first new)

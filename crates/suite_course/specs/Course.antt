@@ -1,18 +1,24 @@
 -- The course of a session from its entry: its turns one after another, and its end.
-use Rattle.std.specs.Prelude.{◌≡◌, ◌⊎◌, [], ℕ, Some, IfSome, Result, Ok, Err}
+use Rattle.std.specs.Prelude.{◌≡◌, ◌⊎◌, ℕ, ◌+◌, ◌≤◌, List, [], ◌++◌, None, Some, IfSome, Result, Ok, Err}
+use Rattle.std.specs.List.{AllByRecursion}
 use Rattle.acct_outside.specs.Tokens.{Token}
 use Rattle.acct_outside.specs.declared.streams.SinkFault.{SinkFault}
 use Rattle.suite_answers.specs.declared.cause.Outcome.{Outcome}
 use Rattle.suite_answers.specs.declared.answer.Answer.{Answer}
+use Rattle.suite_session.specs.declared.state.State.{State}
 use Rattle.suite_session.specs.declared.session.Phase.{Phase}
 use Rattle.suite_session.specs.declared.session.Phase.TheVariants.{Waiting, Begun, Over, Unbegun}
 use Rattle.suite_session.specs.Runner.{Question, Runner}
+use Rattle.acct_outside.specs.Journal.{Entry}
 use Rattle.acct_outside.specs.Moment.{Moment}
 use Rattle.suite_session.specs.Answers.{Says, after_streams}
 use Rattle.suite_session.specs.Belongs.{IsLedTo}
-use Rattle.suite_session.specs.Session.{outcome_of, output_failed}
+use Rattle.suite_session.specs.Counts.{IsToList}
+use Rattle.suite_session.specs.Left.{appends_left, calls_left, most_appends, most_calls, most_lower}
+use Rattle.suite_session.specs.Session.{answer_of, outcome_of, output_failed}
 use Rattle.suite_session.specs.Stands.{IsOutside, TellsOutside, TurnsTo}
 use Rattle.suite_session.specs.Turning.{HasAnswered, IsNew, IsUnbegun, SessionTurns}
+use Rattle.suite_course.specs.Asked.{AreWithin, EndsWhereRefused, IsCall, ShowsLower, WasDone, appends_asked, others_asked}
 use Rattle.suite_course.specs.Streams.{Streams, Serves}
 
 -- The session, which was asked this, came so far before its last call: its events led to its state. Until
@@ -42,9 +48,34 @@ abbrev pub made_in : Phase → ℕ → ℕ
 made_in (Waiting question) made = 0
 made_in phase made = made
 
+-- On its way a session has made these calls: with those that are left they are within the bound. Before its
+-- second listing as many lower locks are counted as one can show.
+pub record HasMade (state : State) (calls : List Entry) : Type 0 where
+  pub lower : ℕ
+  pub most : lower ≤ most_lower
+  pub shows : IsToList state ⊎ ShowsLower calls lower
+  pub within : others_asked calls + calls_left state ≤ most_calls + lower
+  pub appended : appends_asked calls + appends_left state ≤ most_appends
+
+-- these are the calls of a session, which come within the bound
+abbrev pub MadeWithin : Phase → List Entry → Type 0
+MadeWithin (Waiting question) calls = calls ≡ []
+MadeWithin (Begun runner state) calls = HasMade state calls
+MadeWithin phase calls = AreWithin calls
+
+-- since an entry the session asked the folder for calls alone; none was refused while it has no answer
+pub record HasAsked (entry now : Moment) (phase : Phase) : Type 0 where
+  pub calls : List Entry
+  pub parts : now.journal ≡ calls ++ entry.journal
+  pub are_calls : AllByRecursion IsCall calls
+  pub stops : EndsWhereRefused calls
+  pub goes : answer_of phase ≡ None → AllByRecursion WasDone calls
+  pub within : MadeWithin phase calls
+
 -- from an entry the session has come so far
 pub record Comes (asked : Question) (entry now : Moment) (phase : Phase) : Type 0 where
   pub made : ℕ
+  pub asks : HasAsked entry now phase
   pub turns : TurnsTo entry now (phase_token phase) (made_in phase made)
       (Reached asked entry now phase) (PhaseTells phase)
 

@@ -1,6 +1,7 @@
 pub mod Open
 pub mod Streams
 pub mod Supplies
+pub mod Asked
 pub mod Course
 pub mod Alone
 pub mod Shows

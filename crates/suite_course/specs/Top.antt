@@ -32,6 +32,7 @@ use Rattle.suite_session.specs.Staging.{HasMovedAll}
 use Rattle.suite_session.specs.Telling.{DropsNothing}
 use Rattle.suite_session.specs.Stands.{HasLeft, IsDiskFault, IsStopped}
 use Rattle.suite_session.specs.Locking.{cause_of_fault}
+use Rattle.suite_course.specs.Asked.{AsksThere}
 use Rattle.suite_course.specs.Open.{StandsOpen}
 use Rattle.suite_course.specs.Streams.{Streams, Serves}
 use Rattle.suite_course.specs.Alone.{AnswersOnOld, IsAlone, Leaves}
@@ -150,13 +151,15 @@ pub record EndsUnsupplied (tool : Tool) (before now : Supplies) (was holds : Str
 -- commitments. The answer that was come to says what its cause says, and of what lies outside it tells
 -- of a fault of the folder alone, whose count then rose. The streams got that answer, and the outcome is
 -- what they left of it. Of a session that was alone, in whose way nothing stood, it is the tool's
--- answer, or there was no memory.
+-- answer, or there was no memory. All that the folder was asked is that it was named by the prefix of the
+-- request, and then the calls of the session, be a history told or not.
 pub record Ran (asked : Question) (before now : Moment) (was holds : Streams) (outcome : Outcome)
     : Type 0 where
   pub narrows : Narrows before.admits now.admits
   pub never_falls : before.faults ≤ now.faults
   pub given : Answer
   pub session : WhereTold before.told now.told (RunsOrNot asked before.admits given outcome)
+  pub asks : AsksThere asked before.journal now.journal
   pub lawful : WhereLawful before now ExtendsLawfully
   pub settles : WhereLawful before now (λ deeds first old new. IsAlwaysSettled deeds first new)
   pub says : Says asked given given.outcome.cause

@@ -1,10 +1,12 @@
 // The course of a session: it is turned to its answer, the streams are served, and it answers.
-ghost use Rattle.std.specs.Prelude.{◌≡◌, Some, Err, IfSome, IsSome};
+ghost use Rattle.std.specs.Prelude.{◌≡◌, List, Some, Err, IfSome, IsSome};
 ghost use Rattle.acct_outside.specs.declared.streams.SinkFault.{SinkFault as Fault};
 ghost use Rattle.suite_session.specs.declared.session.Phase.TheVariants.{Waiting};
 ghost use Rattle.suite_session.specs.Runner.{Question};
 ghost use Rattle.suite_session.specs.Belongs.{Belongs};
 ghost use Rattle.suite_session.specs.Session.{IsToPut, IsWaiting, answer_of};
+ghost use Rattle.acct_outside.specs.Journal.{Entry};
+ghost use Rattle.suite_course.specs.Asked.{MakesCalls};
 ghost use Rattle.suite_course.specs.Course.{Comes, Concludes, Finished, phase_after};
 ghost use Rattle.suite_course.specs.Streams.{Serves, streams};
 
@@ -23,10 +25,12 @@ pub(crate) fn finish<T: Tools, F: Folder, O: Sink, E: Sink>(
     err: &mut E,
 ) -> Outcome
     requires { IsWaiting session }
-    ensures { (asked : Question) → session ≡ Waiting asked → tool ≡ asked.request.tool →
+    ensures finished { (asked : Question) → session ≡ Waiting asked → tool ≡ asked.request.tool →
         Finished asked (F.moment folder.old) (F.moment folder.new)
         (streams (O.moment out.old) (E.moment err.old))
         (streams (O.moment out.new) (E.moment err.new)) result }
+    ensures asks { (calls : List Entry) ×
+        MakesCalls calls (F.moment folder.old).journal (F.moment folder.new).journal }
 {
     let session = to_answer(session, folder);
     let put = put_answer(tool, &session, out, err);

@@ -1,11 +1,13 @@
 // A command that asks for something: it is supplied, enters the folder, and its session runs there.
-ghost use Rattle.std.specs.Prelude.{◌≡◌, ◌⊎◌, ◌≤◌, ℕ, false, Some, IfOk};
+ghost use Rattle.std.specs.Prelude.{◌≡◌, ◌⊎◌, ◌≤◌, ℕ, false, Some, IfOk, IsErr};
 ghost use Rattle.acct_text.specs.Bytes.{Bytes as Text};
-ghost use Rattle.acct_outside.specs.Moment.{Narrows};
+ghost use Rattle.acct_outside.specs.Journal.{Reply, enters, was_refused};
+ghost use Rattle.acct_outside.specs.Moment.{Narrows, Notes};
 ghost use Rattle.account_model.specs.Words.{Asks};
 ghost use Rattle.option_words.specs.Parsed.{request_in};
 ghost use Rattle.suite_session.specs.declared.session.Phase.TheVariants.{Waiting};
 ghost use Rattle.suite_session.specs.Runner.{LinesAsk, question};
+ghost use Rattle.suite_course.specs.Asked.{AsksThere};
 ghost use Rattle.suite_course.specs.Course.{Finished};
 ghost use Rattle.suite_course.specs.Streams.{streams};
 ghost use Rattle.suite_course.specs.Supplies.{AreSupplied, reads_input, supplies};
@@ -47,7 +49,9 @@ pub fn run_request<T: Tools, F: Folder, S: Source, O: Sink, E: Sink, C: Clock>(
         (supplies (S.moment input.new) (C.moment clock.new)) text day
         × Finished (question words.now (request_in parsed) text day) (F.moment folder.old)
         (F.moment folder.new) (streams (O.moment out.old) (E.moment err.old))
-        (streams (O.moment out.new) (E.moment err.new)) result) }
+        (streams (O.moment out.new) (E.moment err.new)) result
+        × AsksThere (question words.now (request_in parsed) text day)
+        (F.moment folder.old).journal (F.moment folder.new).journal) }
     ensures no_input { reads_input parsed.tool ≡ false → input.new ≡ input.old }
 {
     let tool = parsed.tool;
@@ -69,9 +73,12 @@ fn run<T: Tools, F: Folder, O: Sink, E: Sink>(
 ) -> Outcome
     requires asks { Asks words.now (request_in parsed) }
     requires lines_ask { LinesAsk parsed.tool supplied.input }
-    ensures { Finished (question words.now (request_in parsed) supplied.input supplied.day)
+    ensures finished { Finished
+        (question words.now (request_in parsed) supplied.input supplied.day)
         (F.moment folder.old) (F.moment folder.new) (streams (O.moment out.old) (E.moment err.old))
         (streams (O.moment out.new) (E.moment err.new)) result }
+    ensures asks { AsksThere (question words.now (request_in parsed) supplied.input supplied.day)
+        (F.moment folder.old).journal (F.moment folder.new).journal }
 {
     let tool = parsed.tool;
     match enter::<T, F>(alloc, words, parsed, supplied, folder) {
@@ -100,6 +107,8 @@ fn enter<T: Tools, F: Folder>(
     ensures told { (F.moment folder.new).told ≡ (F.moment folder.old).told }
     ensures narrows { Narrows (F.moment folder.old).admits (F.moment folder.new).admits }
     ensures never_falls { (F.moment folder.old).faults ≤ (F.moment folder.new).faults }
+    ensures named { (reply : Reply) × Notes (F.moment folder.old) (F.moment folder.new)
+        (enters parsed.prefix reply) × (reply ≡ was_refused → IsErr result) }
 {
     if folder.enter(&parsed.prefix).is_err() {
         return Err(AllocError);

@@ -81,7 +81,7 @@ returns-in-Ok-clause-ran g c = λ request asks.
         ran.0,
         ran.1,
         ran.2,
-        finished-ran _ entry now was holds c.run_request.result ran.3,
+        finished-ran _ entry now was holds c.run_request.result ran.3 ran.4,
       )
     ])
 

@@ -3,6 +3,7 @@ use Rattle.suite_session.specs.declared.session.Phase.{Phase}
 use Rattle.suite_session.specs.Belongs.{Belongs}
 use Rattle.suite_session.specs.Session.{answer_of}
 use Rattle.suite_course.specs.Streams.{streams}
+use Rattle.suite_course.proofs.AskedEnd.{asked-last}
 use Rattle.suite_course.proofs.CourseLemmas.{waiting-is}
 use Rattle.suite_course.proofs.FinishLemmas.{finishes, is-to-put, streams-answer, streams-belong}
 use Rattle.suite_course.proofs.course.finish.Goals as goal
@@ -39,8 +40,8 @@ conclude-requires g c =
           (streams-answer c.put_answer-put.result session c.to_answer-session.ensures.answers);
     }
 
-pub returns : goal.returns
-returns g c = λ asked is tool.
+pub returns-clause-finished : goal.returns-clause-finished
+returns-clause-finished g c = λ asked is tool.
     let entry = g.F.Folder.moment c.args.folder.now in
     let between = g.F.Folder.moment c.to_answer-session.new.folder in
     let now = g.F.Folder.moment c.conclude.new.folder in
@@ -51,3 +52,15 @@ returns g c = λ asked is tool.
     c.args.tool c.to_answer-session.result c.after_streams.result tool
     (c.to_answer-session.ensures.comes asked is) c.to_answer-session.ensures.answers
     c.put_answer-put.ensures c.after_streams.ensures c.conclude.ensures
+
+pub returns-clause-asks : goal.returns-clause-asks
+returns-clause-asks g c =
+    let entry = g.F.Folder.moment c.args.folder.now in
+    let between = g.F.Folder.moment c.to_answer-session.new.folder in
+    let now = g.F.Folder.moment c.conclude.new.folder in
+    let waits = waiting-is c.args.session c.requires in
+    let concludes = c.conclude.ensures in
+    asked-last waits.0 entry between now c.put_answer-put.result concludes.last c.conclude.result
+    concludes.ends c.to_answer-session.result c.after_streams.result
+    (c.to_answer-session.ensures.comes waits.0 waits.1) c.to_answer-session.ensures.answers
+    c.after_streams.ensures concludes.turns

@@ -1,14 +1,16 @@
 use Rattle.std.proofs.Common.{◌≡◌, [], refl, subst, Some}
+use Rattle.std.specs.Prelude.{IsErr}
 use Rattle.option_words.specs.Parsed.{request_in}
 use Rattle.suite_answers.specs.declared.answer.Answer.{Answer}
 use Rattle.suite_session.specs.Runner.{Question, question}
 use Rattle.suite_session.specs.Answers.{after_streams}
 use Rattle.suite_course.specs.Streams.{Serves, streams}
+use Rattle.suite_course.proofs.AskedEnd.{asked-none, asked-there}
 use Rattle.suite_course.proofs.RanLemmas.{finished-from, stays-turns, unbegun-finished}
 use Rattle.suite_course.proofs.running.run.Goals as goal
 
-pub returns-in-Ok : goal.returns-in-Ok
-returns-in-Ok g c =
+pub returns-in-Ok-clause-finished : goal.returns-in-Ok-clause-finished
+returns-in-Ok-clause-finished g c =
     let entry = g.F.Folder.moment c.args.folder.now in
     let between = g.F.Folder.moment c.enter.new.folder in
     let now = g.F.Folder.moment c.finish.new.folder in
@@ -20,10 +22,10 @@ returns-in-Ok g c =
     (stays-turns entry between [] {S = Unit {0}} {T = ⊥} c.enter.ensures.told
     c.enter.ensures.narrows
     c.enter.ensures.never_falls tt (λ none. none))
-    (c.finish.ensures asked c.in-Ok.ensures.session refl)
+    (c.finish.ensures.finished asked c.in-Ok.ensures.session refl)
 
-pub returns-in-Err : goal.returns-in-Err
-returns-in-Err g c =
+pub returns-in-Err-clause-finished : goal.returns-in-Err-clause-finished
+returns-in-Err-clause-finished g c =
     let entry = g.F.Folder.moment c.args.folder.now in
     let now = g.F.Folder.moment c.enter.new.folder in
     let was = streams (g.O.Sink.moment c.args.out.now) (g.E.Sink.moment c.args.err.now) in
@@ -36,3 +38,16 @@ returns-in-Err g c =
     c.memory_answer.ensures c.end.ensures.served)
     (subst (λ (one : Answer). c.end.result ≡ (after_streams c.end.ensures.put one).outcome)
     c.memory_answer.ensures c.end.ensures.left)
+
+-- the folder was named, and the session made its calls
+pub returns-in-Ok-clause-asks : goal.returns-in-Ok-clause-asks
+returns-in-Ok-clause-asks g c =
+    let named = c.enter.ensures.named in
+    let made = c.finish.ensures.asks in
+    asked-there _ named.0 _ _ _ made.0 named.1 made.1
+    (λ refused. absurd (cc (subst IsErr c.in-Ok.is (named.2 refused))))
+
+-- it may have been named, and no session began
+pub returns-in-Err-clause-asks : goal.returns-in-Err-clause-asks
+returns-in-Err-clause-asks g c =
+    let named = c.enter.ensures.named in asked-none _ named.0 _ _ named.1
