@@ -3,7 +3,7 @@
 -- that did, with another token (`other-stays`).
 -- Way: the history grows by at most one event of the session's token (`grown-one`); that token is new or
 -- its own. A session that died has an ended life, which no event of others changes.
-use Rattle.std.proofs.Common.{◌≡◌, ◌≢◌, ◌⊎◌, inl, inr, refl, sym, ap, subst, ◌∙◌, ℕ, ◌≤◌, ◌∷◌, [], length, true, false, not, Some, None, Ok, true≢false, arith}
+use Rattle.std.proofs.Common.{◌≡◌, ◌≢◌, ◌⊎◌, inl, inr, refl, sym, ap, subst, ◌∙◌, ℕ, ◌≤◌, List, ◌∷◌, [], length, true, false, not, Some, None, Ok, true≢false, arith}
 use Rattle.std.specs.Prelude.{bytes_eq}
 use Rattle.std.proofs.lemmas.Bool.{cases_Bool, cond-true, cond-false, not-false}
 use Rattle.memory_folder.specs.declared.Effect.{Effect as CallEffect}
@@ -14,6 +14,7 @@ use Rattle.acct_outside.specs.Calls.{Call, Effect, answers, died}
 use Rattle.acct_outside.specs.History.{Event, History, is_of, own_events}
 use Rattle.acct_outside.specs.Life.{Life, unbegun, running, faulted, ended, life, life_step, runs_in, is_running}
 use Rattle.memory_folder.specs.Logged.{with_event}
+use Rattle.acct_outside.specs.Journal.{Entry}
 use Rattle.acct_outside.specs.Moment.{Past}
 use Rattle.memory_folder.specs.Memory.{no_others}
 use Rattle.acct_outside.specs.Contract.{has_begun, was_begun}
@@ -170,16 +171,17 @@ module _ (before now : Telling) where
 
 -- ---- A death
 
--- a folder of this history and count
-abbrev telling_of : Past → ℕ → Telling
-telling_of past faults = record { past = past; faults = faults }
+-- a folder of this history, count and journal
+abbrev telling_of : Past → ℕ → List Entry → Telling
+telling_of past faults journal = record { past = past; faults = faults; journal = journal }
 
 -- what tells the same is the same
 pub telling-same : (before now : Telling) → now.past ≡ before.past → now.faults ≡ before.faults →
-    before ≡ now
-telling-same before now past faults =
-    ap (λ (one : Past). telling_of one before.faults) (sym past)
-    ∙ ap (λ (count : ℕ). telling_of now.past count) (sym faults)
+    now.journal ≡ before.journal → before ≡ now
+telling-same before now past faults journal =
+    ap (λ (one : Past). telling_of one before.faults before.journal) (sym past)
+    ∙ (ap (λ (count : ℕ). telling_of now.past count before.journal) (sym faults)
+    ∙ ap (λ (entries : List Entry). telling_of now.past now.faults entries) (sym journal))
 
 -- a token isn't empty
 pub token-named : (token : Token) → IsToken token → token ≢ []
@@ -250,11 +252,11 @@ module _ (before now : Telling) where
 
   -- where nothing came, a session takes part still
   same-takes : (session new : Phase) → now.past ≡ before.past → now.faults ≡ before.faults →
-      new ≡ session → TakesPart before session → TakesPart now new
-  same-takes session new past faults is part =
+      now.journal ≡ before.journal → new ≡ session → TakesPart before session → TakesPart now new
+  same-takes session new past faults journal is part =
       subst (TakesPart now) (sym is)
       (subst (λ (told : Telling). TakesPart told session)
-      (telling-same before now past faults) part)
+      (telling-same before now past faults journal) part)
 
   -- what died runs no more, and else the session is as it was
   pub death-takes-part : (effect : CallEffect) (old new : Phase) → has_ended before old ≡ false →
@@ -278,9 +280,9 @@ module _ (before now : Telling) where
       absurd (true≢false (sym (not-false (is_running runner.token before.past.history) going)
       ∙ ap runs_in dead.ended))
   death-takes-part effect (Over runner answer) new going part is =
-      same-takes (Over runner answer) new is.dies.1 is.faults is.dies.0 part
+      same-takes (Over runner answer) new is.dies.1 is.faults is.journal is.dies.0 part
   death-takes-part effect (Unbegun tool answer) new going part is =
-      same-takes (Unbegun tool answer) new is.dies.1 is.faults is.dies.0 part
+      same-takes (Unbegun tool answer) new is.dies.1 is.faults is.journal is.dies.0 part
 
 -- ---- The others
 

@@ -13,6 +13,7 @@ use Rattle.acct_outside.specs.declared.FolderFault.TheVariants.{Failed, Memory}
 use Rattle.acct_outside.specs.Tokens.{Token}
 use Rattle.acct_outside.specs.Folder.{Folder}
 use Rattle.acct_outside.specs.Calls.{Answer, Call, CallResult, Command, answers, begins, done}
+use Rattle.acct_outside.specs.Journal.{Entry}
 use Rattle.acct_outside.specs.Contract.{MayAct, MayAnswer, NeverAdmits, Passes, TellsBegin, TellsCall, TellsEvent, WhereTold, has_begun, was_begun}
 use Rattle.acct_outside.specs.Faults.{CountsFailure}
 use Rattle.acct_outside.specs.History.{Event, History, own_events}
@@ -219,12 +220,15 @@ module _ (here : Scene) (token : Token) where
   }
 
   -- who may call is one
-  pub acting-outside : MayAct (staged here) token → IsOutsider here token
-  acting-outside may = outside may.begun may.own
+  pub acting-outside : (journal : List Entry) → MayAct (staged here journal) token →
+      IsOutsider here token
+  acting-outside journal may = outside may.begun may.own
 
   -- who may answer is one
-  pub answering-outside : MayAnswer (staged here) token → IsOutsider here token
-  answering-outside may = outside (by-life (life token here.told.past.history) may.runs) may.own
+  pub answering-outside : (journal : List Entry) → MayAnswer (staged here journal) token →
+      IsOutsider here token
+  answering-outside journal may = outside (by-life (life token here.told.past.history) may.runs)
+      may.own
     where
       by-life : (now : Life) → runs_in now ≡ true → was_begun now ≡ true
       by-life unbegun is = absurd (true≢false (sym is))
@@ -263,8 +267,9 @@ module _ (before between now : Scene) (advances : Advances before between)
   pub passes-after : {T : Type 0} (token : Token) → OneCame between.told now.told token →
       (Told : Type 0) → Told → (result : Result T FolderFault) →
       CountsFailure Failed between.told.faults now.told.faults result →
-      Passes (staged before) (staged now) Told result
-  passes-after token one Told told result counts = record {
+      (was journal : List Entry) (entry : Entry) → journal ≡ entry ∷ was →
+      Passes (staged before was) (staged now journal) Told entry result
+  passes-after token one Told told result counts was journal entry noted = record {
     told = told;
     narrows = narrows-after token one;
     faults = record {
@@ -276,6 +281,7 @@ module _ (before between now : Scene) (advances : Advances before between)
         | inr last ↦ inr last
       ];
     };
+    noted = noted;
   }
 
   -- an event that is told after those that came

@@ -4,25 +4,33 @@ use Rattle.memory_folder.specs.declared.memory.MemoryFolder.{MemoryFolder}
 use Rattle.acct_outside.specs.Tokens.{Token}
 use Rattle.acct_outside.specs.Contract.{has_begun}
 use Rattle.acct_outside.specs.Life.{ended, is_running, life}
-use Rattle.memory_folder.specs.Memory.{faults_of, no_others, past_of}
+use Rattle.memory_folder.specs.Memory.{faults_of, journal_of, no_others, past_of}
+use Rattle.acct_outside.specs.Journal.{Entry}
 use Rattle.acct_outside.specs.Moment.{Moment, Past}
 use Rattle.suite_session.specs.declared.session.Phase.{Phase}
 use Rattle.suite_session.specs.declared.session.Phase.TheVariants.{Begun}
 use Rattle.suite_session.specs.Belongs.{AreApart, Belongs}
 use Rattle.suite_session.specs.Session.{token_of}
 
--- what a folder in memory tells: its history, and how often it failed
+-- what a folder in memory tells: its history, how often it failed, and what it was asked
 pub record Telling : Type 0 where
   pub past : Past
   pub faults : ℕ
+  pub journal : List Entry
 
 -- what this folder tells
 abbrev pub telling : MemoryFolder → Telling
-telling folder = record { past = past_of folder; faults = faults_of folder }
+telling folder =
+    record { past = past_of folder; faults = faults_of folder; journal = journal_of folder }
 
 -- the folder's moment: it admits no events of others
 abbrev pub moment_in : Telling → Moment
-moment_in told = record { admits = no_others; told = Some told.past; faults = told.faults }
+moment_in told = record {
+  admits = no_others;
+  told = Some told.past;
+  faults = told.faults;
+  journal = told.journal;
+}
 
 -- what the folder tells, and the sessions in their places
 pub record Scene : Type 0 where

@@ -30,6 +30,7 @@ pub record Dies (before now : Telling) (effect : Effect) (old new : Phase) : Typ
   pub lawful : StaysOurs (moment_in before) (moment_in now)
   pub others : KeepsOthers (moment_in before) (moment_in now) old new
   pub faults : now.faults ≡ before.faults
+  pub journal : now.journal ≡ before.journal
 
 -- a session that goes takes the step
 abbrev pub Goes : Step → Telling → Telling → Phase → Phase → Type 0

@@ -1,5 +1,6 @@
 // A schedule: lists of steps, of which one is taken before each call of a staged folder.
-ghost use Rattle.std.specs.Prelude.{◌≡◌, OnOk, drop};
+ghost use Rattle.std.specs.Prelude.{◌≡◌, List, OnOk, drop};
+ghost use Rattle.acct_outside.specs.Journal.{Entry};
 ghost use Rattle.side_by_side.specs.Scenes.{TakePart, scene};
 ghost use Rattle.side_by_side.specs.Steps.{TakesSteps};
 ghost use Rattle.side_by_side.specs.Lists.{lists_behind, next_list};
@@ -29,8 +30,10 @@ impl Schedule {
         folder: &mut MemoryFolder,
     ) -> Result<(), AllocError>
         requires { TakePart (scene folder.old sessions.old.items) }
-        ensures played { PlaysNext (stage_of folder.old sessions.old.items (lists_left self.old))
-            (stage_of folder.new sessions.new.items (lists_left self.new)) }
+        ensures played { (journal : List Entry) →
+            PlaysNext (stage_of folder.old sessions.old.items (lists_left self.old) journal)
+            (stage_of folder.new sessions.new.items (lists_left self.new) journal) }
+        ensures take_part { TakePart (scene folder.new sessions.new.items) }
         ensures whole { OnOk result (TakesSteps (next_list (lists_left self.old))
             (scene folder.old sessions.old.items) (scene folder.new sessions.new.items)) }
     {

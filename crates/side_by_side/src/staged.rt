@@ -1,17 +1,18 @@
 // A folder in memory in which the sessions of a schedule take their steps between the calls of others.
-ghost use Rattle.std.specs.Prelude.{◌≡◌};
+ghost use Rattle.std.specs.Prelude.{◌≡◌, []};
 ghost use Rattle.side_by_side.specs.Scenes.{TakePart, scene};
 ghost use Rattle.side_by_side.specs.Staged.{scene_in, stage_of};
 
 use crate::schedule::Schedule;
 use crate::step::Step;
+use acct_outside::Journal;
 use memory_folder::MemoryFolder;
 use std::marker::Model;
 use suite_session::{Session, Tools};
 
 /// A folder in memory with other sessions, which take their steps by a schedule: the first list of it
 /// before the first call, the next before the next, counted without `enter`, `answered` and `faults`.
-/// Contracts see the folder, these sessions and the lists that are left.
+/// Contracts see the folder, these sessions, the lists that are left and what was asked.
 ///
 /// It tells the history of that folder, and admits exactly the lawful events of sessions other than
 /// those that call it. Where a list finds no memory, the call answers `Memory`, and the steps before
@@ -21,6 +22,7 @@ pub struct StagedFolder<T: Tools> {
     pub(crate) folder: MemoryFolder,
     pub(crate) others: Vec<Session<T>>,
     pub(crate) schedule: Schedule,
+    pub(crate) journal: Journal,
 }
 
 impl<T: Tools> Model for StagedFolder<T> {
@@ -31,7 +33,7 @@ impl<T: Tools> Model for StagedFolder<T> {
     ghost Value = { Stage };
 
     ghost view = { λ staged. stage_of staged.folder staged.others.items
-        (lists_left staged.schedule) };
+        (lists_left staged.schedule) staged.journal.entries };
 
     ghost invariant = { λ staged. TakePart (scene staged.folder staged.others.items) };
 }
@@ -40,7 +42,7 @@ impl<T: Tools> StagedFolder<T> {
     /// A folder in which these sessions take part, with the lists of their steps.
     pub fn new(folder: MemoryFolder, others: Vec<Session<T>>, schedule: Vec<Vec<Step>>) -> Self
         requires { TakePart (scene folder others.items) }
-        ensures { result ≡ stage_of folder others.items schedule.items }
+        ensures { result ≡ stage_of folder others.items schedule.items [] }
     {
         StagedFolder {
             folder,
@@ -49,6 +51,7 @@ impl<T: Tools> StagedFolder<T> {
                 lists: schedule,
                 taken: 0,
             },
+            journal: Journal::new(),
         }
     }
 

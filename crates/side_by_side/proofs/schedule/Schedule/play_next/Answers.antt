@@ -8,7 +8,7 @@ use Rattle.side_by_side.specs.Steps.{TakesFront, TakesSteps}
 use Rattle.side_by_side.proofs.schedule.Schedule.play_next.Goals as goal
 
 pub returns-clause-played : goal.returns-clause-played
-returns-clause-played g c = record {
+returns-clause-played g c = λ journal. record {
   left = subst
       (λ (lists : List (Vec Step)). drop c.place_behind-self.result lists
       ≡ lists_behind (drop c.args.self.now.taken lists)) c.deref.ensures.value

@@ -1,11 +1,12 @@
+use Rattle.std.proofs.Common.{[]}
 use Rattle.acct_outside.specs.Calls.{Command}
 use Rattle.acct_outside.specs.Contract.{BeginsSession}
 use Rattle.side_by_side.proofs.StagedCalls.{begin-own, begin-part, begins-told, breaks-off, calls-next, in-memory, want-begun}
 use Rattle.side_by_side.proofs.staged_calls.StagedFolderFolder.begin.Goals as goal
 
 pub returns-in_err-play_next-clause-call : goal.returns-in_err-play_next-clause-call
-returns-in_err-play_next-clause-call g c = want-begun c.self.view_is c.play_next.ensures.played _
-    c.from_residual.result c.from_residual.ensures
+returns-in_err-play_next-clause-call g c = want-begun c.self.view_is (c.play_next.ensures.played _)
+    c.note.new.self.entries _ c.note.ensures c.from_residual.result c.from_residual.ensures
 
 pub invariant_of-self-2 : goal.invariant_of-self-2
 invariant_of-self-2 g c =
@@ -14,16 +15,22 @@ invariant_of-self-2 g c =
       input = c.args.input.now;
       day = c.args.day;
     } in
-    begin-part c.play_next.ensures.played c.begin.new.self command c.begin.result
-    c.begin.ensures.told
+    begin-part (c.play_next.ensures.played c.note.new.self.entries) c.begin-answer.new.self []
+    command
+    c.begin-answer.result
+    c.begin-answer.ensures.told
 
 pub returns-clause-call : goal.returns-clause-call
-returns-clause-call g c = begins-told c.self.view_is c.play_next.ensures.played c.begin.new.self _
-    c.begin.result c.begin.ensures.told c.begin.ensures.faults
+returns-clause-call g c = begins-told c.self.view_is (c.play_next.ensures.played _)
+    c.begin-answer.new.self
+    c.settle.new.journal.entries _ c.begin-answer.result c.begin-answer.ensures.told
+    c.begin-answer.ensures.faults
+    (c.settle.ensures _ _ c.note.ensures)
 
 pub returns-clause-own : goal.returns-clause-own
-returns-clause-own g c = begin-own c.play_next.ensures.played c.begin.new.self _
-    c.begin.result c.begin.ensures.told
+returns-clause-own g c = begin-own (c.play_next.ensures.played c.note.new.self.entries)
+    c.begin-answer.new.self _
+    c.begin-answer.result c.begin-answer.ensures.told
 
 pub returns-in_err-play_next-clause-next : goal.returns-in_err-play_next-clause-next
 returns-in_err-play_next-clause-next g c =
@@ -32,7 +39,8 @@ returns-in_err-play_next-clause-next g c =
       input = c.args.input.now;
       day = c.args.day;
     } in
-    breaks-off c.self.view_is c.play_next.ensures.played
+    breaks-off c.self.view_is (c.play_next.ensures.played _)
+    c.note.new.self.entries
     (λ before now. BeginsSession before now command c.from_residual.result)
     c.from_residual.result c.from_residual.ensures
 
@@ -43,8 +51,10 @@ returns-clause-next g c =
       input = c.args.input.now;
       day = c.args.day;
     } in
-    calls-next c.self.view_is c.play_next.ensures.played c.begin.new.self
+    calls-next c.self.view_is (c.play_next.ensures.played _) c.begin-answer.new.self
+    c.settle.new.journal.entries
     c.in_ok-play_next.ensures.whole
-    (λ before now. BeginsSession before now command c.begin.result) c.begin.result
-    (in-memory c.play_next.new.folder c.begin.new.self _ c.begin.ensures.told c.begin.result
-    c.begin.ensures.faults)
+    (λ before now. BeginsSession before now command c.begin-answer.result) c.begin-answer.result
+    (in-memory c.play_next.new.folder c.begin-answer.new.self _ c.begin-answer.ensures.told
+    c.begin-answer.result
+    c.begin-answer.ensures.faults _ c.begin-answer.ensures.noted)
