@@ -1,10 +1,25 @@
 -- Which path of the file system stands for which name of the folder.
-use Rattle.std.specs.Prelude.{◌≡◌, ◌↔◌, ℕ, ◌==◌, ◌++◌, List, [], length, Option, Some, codes, if◌then◌else◌}
+use Rattle.std.specs.Prelude.{◌≡◌, ◌↔◌, ℕ, ◌==◌, ◌++◌, List, [], length, Option, None, Some, codes, if◌then◌else◌}
+use Rattle.std.specs.Str.{is_utf8}
 use Rattle.acct_text.specs.declared.Tab.{Tab}
 use Rattle.acct_text.specs.Tables.{table_name}
 use Rattle.acct_outside.specs.declared.Name.{Name}
 use Rattle.acct_outside.specs.Contract.{IsLockNumber}
 use Rattle.acct_outside.specs.Names.{file_name}
+use Rattle.acct_outside.specs.Journal.{Entry, last_entered, replied, was_done}
+
+-- the path of DIR/etc by the prefix DIR, empty where that is no text
+abbrev pub etc_by : List ℕ → List ℕ
+etc_by prefix = if is_utf8 prefix then prefix ++ codes "/etc" else []
+
+-- the path of the folder by what it was asked: that of the prefix by which it was named last, empty where
+-- it has no name
+abbrev pub etc_after : List Entry → List ℕ
+etc_after journal = elim (last_entered journal) [ None ↦ [] | Some prefix ↦ etc_by prefix ]
+
+-- what the folder was asked last was no name: done it leaves the path
+abbrev pub IsOfCall : List Entry → Type 0
+IsOfCall journal = etc_after (replied was_done journal) ≡ etc_after journal
 
 -- The path of a file in the folder. A folder that no prefix named has the empty path, and so has all
 -- in it: nothing stands there, and nothing can be made there (path_resolution(7), "Empty pathname").

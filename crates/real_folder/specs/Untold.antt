@@ -1,14 +1,20 @@
--- What the folder, the streams and the clock of a system tell of themselves: how often they failed,
--- and the day that was last given; neither a history nor bytes.
-use Rattle.std.specs.Prelude.{ℕ, Option, None, is_some}
+-- What the folder, the streams and the clock of a system tell of themselves: how often they failed, what
+-- the folder was asked, and the day that was last given; neither a history nor bytes.
+use Rattle.std.specs.Prelude.{ℕ, List, Option, None, is_some}
 use Rattle.acct_outside.specs.Faults.{Faults}
+use Rattle.acct_outside.specs.Journal.{Entry}
 use Rattle.acct_outside.specs.Moment.{Moment}
 use Rattle.acct_outside.specs.Streams.{ClockMoment, SinkMoment, SourceMoment}
 use Rattle.real_folder.specs.declared.faults.Faults.{Faults as Noted}
 
--- a folder that has failed so often
-abbrev pub untold : ℕ → Moment
-untold faults = record { admits = λ history event. ⊥; told = None; faults = faults }
+-- a folder that has failed so often, and was asked this
+abbrev pub untold : ℕ → List Entry → Moment
+untold faults journal = record {
+  admits = λ history event. ⊥;
+  told = None;
+  faults = faults;
+  journal = journal;
+}
 
 -- the count of the faults that were noted; the last call failed where its error is kept
 abbrev pub faults_of : Noted → Faults

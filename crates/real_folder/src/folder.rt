@@ -6,18 +6,19 @@ ghost use Rattle.std.specs.List.Sorted.{IsNonDecreasing};
 ghost use Rattle.acct_outside.specs.declared.FolderFault.TheVariants.{Failed};
 ghost use Rattle.acct_outside.specs.Contract.{IsLockNumber, IsWithinLimit};
 ghost use Rattle.acct_outside.specs.Faults.{CountsFailure};
+ghost use Rattle.acct_outside.specs.Journal.{Settles, replied, was_done};
 ghost use Rattle.acct_outside.specs.Tokens.{held_text as held};
-ghost use Rattle.real_folder.specs.Paths.{path_at};
+ghost use Rattle.real_folder.specs.Paths.{IsOfCall, etc_after, path_at};
 
 use crate::faults::{Faults, SystemError, about};
 use crate::files;
 use crate::files::Links;
-use crate::lock_file::{Claimed, Hold, LockFile, hold_in, remove_left_over};
+use crate::lock_file::{Claimed, Hold, LockFile, hold_in};
 use crate::names::{lock_number, own_path, path_of};
 use crate::process::{locked_token, own_identity};
 use crate::shadow_locks::{ShadowLocks, shadow_lock_file};
 use crate::staged_file::StagedFile;
-use acct_outside::{Created, FolderFault, Found, Name, Token};
+use acct_outside::{Created, FolderFault, Found, Journal, Name, Token};
 use acct_text::Bytes;
 use std::alloc::{AllocError, Global};
 use std::fs::File;
@@ -25,6 +26,7 @@ use std::rt::{Clock, Files};
 use std::{fs, io};
 
 mod calls;
+mod staging;
 
 /// DIR/etc on a file system, for one session: its token is that of the process, and its lock is held
 /// until the folder is dropped.
@@ -33,8 +35,7 @@ pub struct RealFolder<R: Files<File = File> + Clock + AllocGlobal + Clone + Drop
     rt: R,
     /// The number of the process.
     process: u32,
-    /// The path of DIR/etc, empty until `enter` named it.
-    etc: String,
+    place: Place,
     /// How the session's lock is held, as its token tells.
     hold: Hold,
     /// The file of the session's lock, from its create on.
@@ -48,16 +49,40 @@ pub struct RealFolder<R: Files<File = File> + Clock + AllocGlobal + Clone + Drop
     faults: Faults,
 }
 
+/// The path of the folder, with what it was asked.
+#[derive(Drop)]
+struct Place {
+    /// The path of DIR/etc, empty until `enter` named it.
+    etc: String,
+    journal: Journal,
+    /// The path is that of the prefix by which the folder was named last.
+    ghost named: { string_bytes etc ≡ etc_after journal.entries },
+}
+
+impl Place {
+    // Takes the path of the prefix by which the folder was asked to be named just now.
+    fn take_name(&mut self, etc: String)
+        requires { string_bytes etc ≡ etc_after (replied was_done self.old.journal.entries) }
+        ensures { self.new.journal.entries ≡ replied was_done self.old.journal.entries }
+    {
+        self.etc = etc;
+        self.journal.done();
+    }
+}
+
 impl<R: Files<File = File> + Clock + AllocGlobal + Clone + Drop> RealFolder<R> {
     /// A folder that isn't named yet, for a session of the process with this number (getpid(2)).
     pub fn new(rt: R, process: u32) -> Self {
-        let etc = String::new(rt.alloc());
+        let place = Place {
+            etc: String::new(rt.alloc()),
+            journal: Journal::new(),
+        };
         let judged = String::new(rt.alloc());
         let shadow_locks = ShadowLocks::new(rt.alloc());
         RealFolder {
             rt,
             process,
-            etc,
+            place,
             hold: Hold::Kernel,
             lock_file: None,
             shadow_locks,
@@ -74,15 +99,15 @@ impl<R: Files<File = File> + Clock + AllocGlobal + Clone + Drop> RealFolder<R> {
 
     // Where the name stands.
     fn path(&self, name: Name) -> Result<String, AllocError>
-        ensures { IfOk result (λ p. string_bytes p ≡ path_at (string_bytes self.now.etc) name) }
+        ensures { IfOk result (λ p. string_bytes p ≡ path_at (string_bytes self.now.place.etc) name) }
     {
-        path_of(self.rt.alloc(), self.etc.as_str(), name)
+        path_of(self.rt.alloc(), self.place.etc.as_str(), name)
     }
 
     // Where the file stands that the session fills before it is its lock.
     fn own_path(&self, by: &Token) -> Result<String, AllocError> {
         let by = String::from_utf8_lossy(self.rt.alloc(), by.as_slice())?;
-        own_path(self.rt.alloc(), self.etc.as_str(), by.as_str())
+        own_path(self.rt.alloc(), self.place.etc.as_str(), by.as_str())
     }
 
     // What the system answered about a path.
@@ -92,11 +117,14 @@ impl<R: Files<File = File> + Clock + AllocGlobal + Clone + Drop> RealFolder<R> {
         about(self.rt.alloc(), path, done)
     }
 
-    // Answers a call that changes nothing: an error of the system is want of memory, or counted.
+    // Answers a call that changes nothing: an error of the system is want of memory, or counted. A call
+    // that was done is noted as such.
     fn answer_look<T>(&mut self, found: Result<T, SystemError>) -> Result<T, FolderFault>
+        requires { IsOfCall self.old.place.journal.entries }
         ensures answers { IsOk result ↔ IsOk found }
         ensures answer { IfOk result (λ answer. found ≡ Ok answer) }
         ensures faults { CountsFailure Failed self.old.faults.count self.new.faults.count result }
+        ensures settles { Settles self.old.place.journal.entries self.new.place.journal.entries result }
     {
         match found {
             Err(e) if e.kind() == io::ErrorKind::OutOfMemory => Err(FolderFault::Memory),
@@ -105,15 +133,20 @@ impl<R: Files<File = File> + Clock + AllocGlobal + Clone + Drop> RealFolder<R> {
     }
 
     // Answers a call that changes files: each error of the system is counted, also want of memory
-    // there, since the change may have happened.
+    // there, since the change may have happened. A call that was done is noted as such.
     fn answer_change<T>(&mut self, done: Result<T, SystemError>) -> Result<T, FolderFault>
+        requires { IsOfCall self.old.place.journal.entries }
         ensures answers { IsOk result ↔ IsOk done }
         ensures answer { IfOk result (λ answer. done ≡ Ok answer) }
         ensures never_memory { ¬ (IsErrOf result FolderFault.Memory) }
         ensures faults { CountsFailure Failed self.old.faults.count self.new.faults.count result }
+        ensures settles { Settles self.old.place.journal.entries self.new.place.journal.entries result }
     {
         match done {
-            Ok(answer) => Ok(answer),
+            Ok(answer) => {
+                self.place.journal.done();
+                Ok(answer)
+            }
             Err(error) => {
                 self.faults.note(error);
                 Err(FolderFault::Failed)
@@ -124,10 +157,14 @@ impl<R: Files<File = File> + Clock + AllocGlobal + Clone + Drop> RealFolder<R> {
     // The token of the session, which tells how the folder's file system lets it hold a lock. No file is
     // made: that is left to the create of the lock.
     fn own_token(&mut self) -> Result<Token, SystemError>
-        ensures { self.new.faults.count ≡ self.old.faults.count }
+        ensures faults { self.new.faults.count ≡ self.old.faults.count }
+        ensures journal { self.new.place.journal.entries ≡ self.old.place.journal.entries }
     {
         let alloc = self.rt.alloc();
-        self.hold = self.at(self.etc.as_str(), hold_in(&self.rt, self.etc.as_str()))?;
+        self.hold = self.at(
+            self.place.etc.as_str(),
+            hold_in(&self.rt, self.place.etc.as_str()),
+        )?;
         let identity = own_identity(&self.rt, self.process)?;
         match self.hold {
             Hold::Kernel => token_of(alloc, &locked_token(alloc, identity.as_str())?),
@@ -151,7 +188,7 @@ impl<R: Files<File = File> + Clock + AllocGlobal + Clone + Drop> RealFolder<R> {
         requires { All IsLockNumber numbers.old.items }
         ensures { All IsLockNumber numbers.new.items }
     {
-        for entry in fs::read_dir(&self.rt, self.etc.as_str())? {
+        for entry in fs::read_dir(&self.rt, self.place.etc.as_str())? {
             if let Some(number) = lock_number(entry?.file_name()) {
                 numbers.push(number)?;
             }
@@ -172,13 +209,14 @@ impl<R: Files<File = File> + Clock + AllocGlobal + Clone + Drop> RealFolder<R> {
 
     // Makes what was renamed in the folder last.
     fn sync_folder(&self) -> Result<(), SystemError> {
-        let etc = self.etc.as_str();
+        let etc = self.place.etc.as_str();
         self.at(etc, files::sync_folder(&self.rt, etc))
     }
 
     // Takes the lock files of shadow-utils, by a file that has the session's own name meanwhile.
     fn take_shadow_locks(&mut self, own: &str, lock: &str) -> Result<(), SystemError>
-        ensures { self.new.faults.count ≡ self.old.faults.count }
+        ensures faults { self.new.faults.count ≡ self.old.faults.count }
+        ensures journal { self.new.place.journal.entries ≡ self.old.place.journal.entries }
     {
         let made = shadow_lock_file(&self.rt, own, self.hold, self.process);
         let file = self.at(lock, made)?;
@@ -187,7 +225,8 @@ impl<R: Files<File = File> + Clock + AllocGlobal + Clone + Drop> RealFolder<R> {
 
     // Claims a file and makes a lock of it.
     fn make_lock(&mut self, own: String, lock: &str, text: &[u8]) -> Result<Created, SystemError>
-        ensures { self.new.faults.count ≡ self.old.faults.count }
+        ensures faults { self.new.faults.count ≡ self.old.faults.count }
+        ensures journal { self.new.place.journal.entries ≡ self.old.place.journal.entries }
     {
         self.take_shadow_locks(own.as_str(), lock)?;
         let claimed = self.at(lock, Claimed::at(&self.rt, own.as_str(), self.hold))?;
@@ -195,91 +234,6 @@ impl<R: Files<File = File> + Clock + AllocGlobal + Clone + Drop> RealFolder<R> {
         let placed = self.at(lock, file.place(&self.rt, lock, text));
         self.lock_file = Some(file);
         placed
-    }
-
-    // Begins a staging file with its first piece, and with the access of the table that it is for. Of
-    // what is to be a backup only the rename knows the table.
-    fn begin_at(
-        &mut self,
-        name: Name,
-        path: &str,
-        table: &str,
-        piece: &[u8],
-    ) -> Result<(), SystemError>
-        ensures { self.new.faults.count ≡ self.old.faults.count }
-    {
-        self.staged = None;
-        let file = self.at(path, StagedFile::begun(&self.rt, name, path, piece))?;
-        if let Name::Staged(_) = name {
-            files::take_on(&self.rt, path, table)?;
-        }
-        self.staged = Some(file);
-        Ok(())
-    }
-
-    // Puts a piece behind what the session stages at the name. Where a piece fails, the file is let go.
-    fn continue_at(&mut self, name: Name, path: &str, piece: &[u8]) -> Result<(), SystemError>
-        ensures { self.new.faults.count ≡ self.old.faults.count }
-    {
-        let Some(mut file) = self.take_staged(name) else {
-            let absent = io::Error::new(io::ErrorKind::NotFound, "not being staged");
-            return self.at(path, Err(absent));
-        };
-        let pushed = file.push(piece);
-        if pushed.is_err() {
-            remove_part(&self.rt, path);
-        } else {
-            self.staged = Some(file);
-        }
-        self.at(path, pushed)
-    }
-
-    // The file that the session stages at the name, which it lets go.
-    fn take_staged(&mut self, name: Name) -> Option<StagedFile>
-        ensures { self.new.faults.count ≡ self.old.faults.count }
-    {
-        match self.staged.take() {
-            Some(file) => if file.is_at(name) { Some(file) } else { None },
-            None => None,
-        }
-    }
-
-    // Makes what the session stages at the name last, and lets it go.
-    fn sync_staged(&mut self, name: Name, path: &str) -> Result<(), SystemError>
-        ensures { self.new.faults.count ≡ self.old.faults.count }
-    {
-        match self.take_staged(name) {
-            Some(file) => self.at(path, file.sync()),
-            None => Ok(()),
-        }
-    }
-
-    // Renames a file to a name, once all that the session staged there is on the disk. The rename to
-    // the intent is the commit, and is to last once it is answered. With the freed lock go those of
-    // shadow-utils, and what others left over.
-    fn rename_to(
-        &mut self,
-        from: Name,
-        to: Name,
-        old: &str,
-        new: &str,
-        table: &str,
-    ) -> Result<(), SystemError>
-        ensures { self.new.faults.count ≡ self.old.faults.count }
-    {
-        if let Name::Backup(_) = to {
-            files::take_on(&self.rt, old, table)?;
-        }
-        self.sync_staged(from, old)?;
-        if let Name::Lock(_) = to {
-            self.shadow_locks.let_go(&self.rt);
-            let _ = remove_left_over(&self.rt, self.etc.as_str());
-        }
-        self.at(new, fs::rename(&self.rt, old, new))?;
-        if to == Name::Intent {
-            self.sync_folder()?;
-        }
-        Ok(())
     }
 
     // Removes the file of a name. Before the intent goes, by which a recovery redoes them, the renames
@@ -308,19 +262,6 @@ fn token_of(alloc: Global, text: &String) -> Result<Token, SystemError> {
         Some(token) => Ok(token),
         None => Err(SystemError::from(io::Error::other("/proc gives no token"))),
     }
-}
-
-// The table whose mode and owner go with what is staged for it or is its backup.
-fn model_of(name: Name) -> Name {
-    match name {
-        Name::Staged(table) | Name::Backup(table) => Name::Table(table),
-        other => other,
-    }
-}
-
-// Removes what a write or an append has left that failed: a part of a file would only fill the disk.
-fn remove_part<R: Files>(rt: &R, path: &str) {
-    let _ = files::remove(rt, path);
 }
 
 // Whether a link may stand at the name. Only login.defs(5) is never replaced.

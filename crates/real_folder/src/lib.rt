@@ -15,6 +15,7 @@ mod names;
 mod process;
 mod shadow_locks;
 mod staged_file;
+mod stat_file;
 mod streams;
 mod verdict;
 

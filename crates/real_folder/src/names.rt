@@ -1,9 +1,9 @@
 // Which file of DIR/etc stands for which name.
-ghost use Rattle.std.specs.Prelude.{◌≡◌, ◌++◌, nat_eq, IfOk, IfSome, IsUtf8, string_bytes, codes, decimal};
+ghost use Rattle.std.specs.Prelude.{◌≡◌, ◌++◌, nat_eq, IfOk, IfSome, string_bytes, codes, decimal};
 ghost use Rattle.std.specs.List.{starts_with};
 ghost use Rattle.acct_outside.specs.Contract.{IsLockNumber};
 ghost use Rattle.acct_outside.specs.Names.{file_name};
-ghost use Rattle.real_folder.specs.Paths.{path_at, path_in, own_front, own_name, shadow_lock, FindsLock};
+ghost use Rattle.real_folder.specs.Paths.{etc_by, path_at, path_in, own_front, own_name, shadow_lock, FindsLock};
 
 use acct_outside::{GREATEST_LOCK, Name};
 use acct_text::{Bytes, Tab, one_number, read_decimal};
@@ -12,7 +12,7 @@ use std::str;
 
 /// The path of DIR/etc, empty where the prefix is no text.
 pub(crate) fn etc_of(alloc: Global, prefix: &Bytes) -> Result<String, AllocError>
-    ensures { IfOk result (λ p. IsUtf8 prefix.now → string_bytes p ≡ prefix.now ++ codes "/etc") }
+    ensures { IfOk result (λ path. string_bytes path ≡ etc_by prefix.now) }
 {
     match str::from_utf8(prefix.as_slice()) {
         Ok(prefix) => format!(in alloc; "{prefix}/etc"),

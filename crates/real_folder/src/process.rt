@@ -1,6 +1,7 @@
 // The process of a token, and what the system shows of it in /proc (proc(5)).
 use crate::faults::{SystemError, about};
 use crate::lock_file::Hold;
+use crate::stat_file::{is_over, number_in, runs, start_in, stat_at, stat_of};
 use acct_text::read_decimal;
 use std::alloc::{AllocError, Global};
 use std::rt::{Clock, Files};
@@ -266,45 +267,4 @@ fn own_namespace<R: Files + AllocGlobal>(rt: &R) -> Result<String, SystemError> 
         .as_str()
         .trim_matches(|letter: char| !letter.is_ascii_digit());
     Ok(String::from_str(rt.alloc(), number)?)
-}
-
-// The stat file of a process.
-fn stat_of<R: Files + AllocGlobal>(rt: &R, process: &str) -> io::Result<String> {
-    let path = format!(in rt.alloc(); "/proc/{process}/stat")?;
-    stat_at(rt, path.as_str())
-}
-
-// A stat file at its path. The name of the program in it may hold bytes that are no text.
-fn stat_at<R: Files + AllocGlobal>(rt: &R, path: &str) -> io::Result<String> {
-    let bytes = fs::read(rt, path)?;
-    Ok(String::from_utf8_lossy(rt.alloc(), &bytes)?)
-}
-
-// Field 1 of a stat file, the process number.
-fn number_in(stat: &str) -> &str {
-    stat.split_once(' ').map_or("", |parts| parts.0)
-}
-
-// Field 22 of a stat file, the start.
-fn start_in(stat: &str) -> &str {
-    field_behind_name(stat, 19)
-}
-
-// Whether the stat file is of a process with this start that runs.
-fn runs(stat: &str, start: &str) -> bool {
-    start_in(stat) == start && !is_over(stat)
-}
-
-// Whether the stat file is of a process that has ended and that its parent hasn't waited for: field 3 is
-// `Z` or `X`.
-fn is_over(stat: &str) -> bool {
-    let state = field_behind_name(stat, 0);
-    state == "Z" || state == "X"
-}
-
-// A field of a stat file, counted from 0 behind field 2. That is a name in parentheses, which may hold
-// blanks and parentheses, so the fields are counted from its end.
-fn field_behind_name(stat: &str, place: usize) -> &str {
-    let fields = stat.rsplit_once(')').map_or("", |parts| parts.1);
-    fields.split_whitespace().nth(place).unwrap_or("")
 }

@@ -86,7 +86,8 @@ impl ShadowLocks {
     }
 
     /// Takes all of them with the file that was made under the session's own name, and removes that
-    /// name. One that is held is an error that names its process, and then none is taken.
+    /// name. One that is held is an error that names its process, and then, as where the own name stays,
+    /// none is taken.
     pub(crate) fn take<R: Files<File = File> + AllocGlobal>(
         &mut self,
         rt: &R,
@@ -96,7 +97,7 @@ impl ShadowLocks {
     ) -> Result<(), SystemError> {
         self.file = Some(file);
         let taken = self.link_all(rt, process, own);
-        let _ = files::remove(rt, own);
+        let taken = taken.and(about(rt.alloc(), own, files::remove(rt, own)));
         if taken.is_err() {
             self.let_go(rt);
         }
