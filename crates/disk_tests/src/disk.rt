@@ -1,7 +1,9 @@
-// The system of a runtime, or one that lacks hard links, as FAT does, or /proc, as a bare chroot does.
+// The system of a runtime, or one that lacks hard links, as FAT does, or /proc, as a bare chroot does, or on
+// which what is staged, or the folder, can't be brought to the disk.
 use std::alloc::Allocator;
 use std::fs::{Metadata, OpenOptions, Permissions};
 use std::io;
+use std::os::fd::AsRawFd;
 use std::path::PathBuf;
 use std::rt::{Clock, Files};
 use std::time::Duration;
@@ -15,6 +17,10 @@ pub(crate) enum Lack {
     Links,
     /// What stands in /proc: nothing does.
     Proc,
+    /// A sync of what is staged: each fails, though all is written.
+    StageSync,
+    /// A sync of the folder: each fails.
+    FolderSync,
 }
 
 /// The files of a runtime, and its clock.
@@ -35,8 +41,27 @@ impl<R: Files + Clock + Clone + Drop> Disk<R> {
         if self.lack == Lack::Proc && path.starts_with("/proc") {
             return Err(io::Error::from(io::ErrorKind::NotFound));
         }
+        if self.lack == Lack::FolderSync && path.ends_with("/etc") {
+            return Err(io::Error::from(io::ErrorKind::PermissionDenied));
+        }
         Ok(())
     }
+
+    // Whether what is opened there is to fail where it is synced: the staging names end so.
+    fn is_unsynced(&self, path: &str) -> bool {
+        self.lack == Lack::StageSync && path.ends_with('+')
+    }
+}
+
+// A file that takes what is written, and can't be synced: the end of a pipe, opened for both ways, so that
+// it has a reader.
+fn unsynced<R: Files + AllocGlobal>(rt: &R) -> io::Result<R::File> {
+    let (_reader, writer) = io::pipe(rt)?;
+    let path = format!(in rt.alloc(); "/proc/self/fd/{}", writer.as_raw_fd())?;
+    OpenOptions::new()
+        .read(true)
+        .write(true)
+        .open(rt, path.as_str())
 }
 
 impl<R: Files + Clock + Alloc + Clone + Drop> Alloc for Disk<R> {
@@ -57,14 +82,18 @@ impl<R: Files + Clock + Clone + Drop> Clock for Disk<R> {
     }
 }
 
-impl<R: Files + Clock + Clone + Drop> Files for Disk<R> {
+impl<R: Files + Clock + AllocGlobal + Clone + Drop> Files for Disk<R> {
     type File = R::File;
 
     type Dir = R::Dir;
 
     fn open_file(&self, how: &OpenOptions, path: &str) -> io::Result<R::File> {
         self.see(path)?;
-        self.rt.open_file(how, path)
+        let file = self.rt.open_file(how, path)?;
+        if self.is_unsynced(path) {
+            return unsynced(&self.rt);
+        }
+        Ok(file)
     }
 
     fn open_dir(&self, path: &str) -> io::Result<R::Dir> {

@@ -21,8 +21,9 @@
 //! The calls are those of a folder, with the names of its files: `begin`, `locks`, `read NAME LIMIT`,
 //! `verdict TOKEN`, `create NAME`, `write NAME TEXT`, `append NAME TEXT`, `rename NAME NAME`, `remove NAME`
 //! and `answered`. Beside these `enter DIR` ends the session and begins another, `linkless DIR` one on a
-//! file system without hard links, `procless DIR` one on a system without /proc, `as TOKEN` says whose the
-//! next calls are, and `faults` how many failed.
+//! file system without hard links, `procless DIR` one on a system without /proc, `stage-syncless DIR` and
+//! `folder-syncless DIR` one on which what is staged, or the folder, can't be brought to the disk, `as TOKEN`
+//! says whose the next calls are, and `faults` how many failed.
 //!
 //! In a text `|` is the end of a line, `^` a byte that is no UTF-8, and `%` the byte 0. The token that the
 //! last `begin` gave is `~b.~p.~n.flock`: its boot, its process with the start of it, and its namespace. The
