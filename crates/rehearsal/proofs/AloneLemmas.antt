@@ -23,6 +23,7 @@ use Rattle.acct_outside.specs.Tokens.{Token}
 use Rattle.acct_outside.specs.Folder.{Folder, settings_file}
 use Rattle.acct_outside.specs.Calls.{Command}
 use Rattle.acct_outside.specs.History.{History, after}
+use Rattle.acct_outside.specs.Journal.{Entry}
 use Rattle.acct_outside.specs.Moment.{Past, Moment}
 use Rattle.memory_folder.specs.Memory.{no_others}
 use Rattle.account_model.specs.declared.tool.Tool.{Tool}
@@ -34,7 +35,7 @@ use Rattle.account_model.specs.Words.{Asks}
 use Rattle.account_model.specs.Answer.{AnswerCause, Unusable, Refused as ModelRefused, RefusedLine as ModelRefusedLine, Same as ModelSame, Changed as ModelChanged, deed, is_faulty_batch, new_files}
 use Rattle.account_model.proofs.AsksLaws.{asks_iff_read}
 use Rattle.account_model.proofs.SeenLemmas.{sees-all}
-use Rattle.suite_session.proofs.ReportStays.{report-stays}
+use Rattle.rehearsal.proofs.ReportStays.{report-stays}
 use Rattle.suite_rules.specs.Deeds.{SuiteDeeds}
 use Rattle.suite_rules.specs.Lawful.{Lawful}
 use Rattle.suite_rules.specs.Settled.{settled}
@@ -198,7 +199,7 @@ no-change-deed true made none = refl
 no-change-deed false made none = none
 
 -- what is no change makes none either
-unchanged-deed : (cause : AnswerCause) → is_change cause ≡ false → new_files cause ≡ None
+pub unchanged-deed : (cause : AnswerCause) → is_change cause ≡ false → new_files cause ≡ None
 unchanged-deed (Unusable problem) stays = refl
 unchanged-deed (ModelRefused refusal) stays = refl
 unchanged-deed (ModelRefusedLine line refusal) stays = refl
@@ -328,13 +329,14 @@ module _ (deeds : SuiteDeeds) (ours : AreOfTools deeds) (asked : Question)
 
 -- ---- The run
 
--- a folder in memory of this history that has failed so often
-abbrev pub at_moment : Past → ℕ → Moment
-at_moment past faults = record { admits = no_others; told = Some past; faults = faults }
+-- a folder in memory of this history that has failed so often, and was asked this
+abbrev pub at_moment : Past → ℕ → List Entry → Moment
+at_moment past faults journal =
+    record { admits = no_others; told = Some past; faults = faults; journal = journal }
 
-module _ (asked : Question) (old new : Past) (one other : ℕ) (was holds : Streams)
-    (outcome : Outcome)
-    (ran : Ran asked (at_moment old one) (at_moment new other) was holds
+module _ (asked : Question) (old new : Past) (one other : ℕ) (older newer : List Entry)
+    (was holds : Streams) (outcome : Outcome)
+    (ran : Ran asked (at_moment old one older) (at_moment new other newer) was holds
     outcome) where
   -- a lawful history stays lawful
   pub ran-lawful : IsLawful old → IsLawful new

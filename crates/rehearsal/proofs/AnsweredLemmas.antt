@@ -19,18 +19,21 @@ use Rattle.account_model.specs.Answer.{Answer, AnswerCause, Unusable, Refused, R
 use Rattle.account_model.specs.Options.{Word}
 use Rattle.account_model.specs.Request.{Request, is_report}
 use Rattle.account_model.specs.Words.{Asks}
+use Rattle.account_model.specs.SeenFiles.{seen_files}
 use Rattle.account_model.proofs.AsksLaws.{asks_iff_read}
+use Rattle.account_model.proofs.SeenLemmas.{sees-all}
 use Rattle.account_model.proofs.DeedLaws.{faultless-deed}
 use Rattle.suite_answers.specs.declared.cause.Outcome.{Outcome}
 use Rattle.suite_session.specs.Answers.{cause_of_answer}
 use Rattle.suite_session.specs.Deeds.{is_change}
 use Rattle.suite_session.specs.Stands.{IsDecided}
 use Rattle.suite_course.specs.Supplies.{AreSupplied, Supplies, TakesAll, reads_input}
-use Rattle.rehearsal.specs.Alone.{IsSuppliedStep, defs_at, files_at}
+use Rattle.rehearsal.specs.Alone.{IsSuppliedStep, answer_seen, defs_at, files_at}
 use Rattle.rehearsal.specs.declared.course.Reached.{Reached}
 use Rattle.rehearsal.specs.Answered.{is_changed}
 use Rattle.rehearsal.specs.Course.{after_read, rehearsal_day}
 use Rattle.rehearsal.specs.Images.{IsAnswered}
+use Rattle.rehearsal.proofs.ReportStays.{report-stays}
 
 -- a source with nothing left gives no input
 no-input : (tool : Tool) (before now : Supplies) (input : Bytes) (day : ℕ) →
@@ -82,6 +85,25 @@ module _ (words : List Word) (old new : Past) (outcome : Outcome) (before now : 
       (on-day asked day (sym gave ∙ supplied.on_day))
       ∙ ap (λ (defs : Option Bytes). answer request [] rehearsal_day (files_at old) defs) settings
 
+  -- the answer on what the command sees is a change where that on the files is one: a report's is none, and
+  -- any other command sees all files
+  seen-changes : (request : Request) → Asks words request → (input : Bytes) (day : ℕ) →
+      is_changed (cause_of_answer (answer request input day (files_at old) (defs_at old)).cause)
+      ≡ is_changed (cause_of_answer (answer_seen request input day old).cause)
+  seen-changes request asks input day = cases (is_report request) refl
+    where
+      cases : (reports : Bool) → is_report request ≡ reports →
+          is_changed (cause_of_answer (answer request input day (files_at old) (defs_at old)).cause)
+          ≡ is_changed (cause_of_answer (answer_seen request input day old).cause)
+      cases true is = let seen = seen_files request (files_at old) in
+          cause-change (answer request input day (files_at old) (defs_at old)).cause
+          ∙ report-stays words request input day (files_at old) (defs_at old) asks is
+          ∙ sym (cause-change (answer request input day seen (defs_at old)).cause
+          ∙ report-stays words request input day seen (defs_at old) asks is)
+      cases false is = ap (λ (files : Files).
+          is_changed (cause_of_answer (answer request input day files (defs_at old)).cause))
+          (sym (sees-all request is (files_at old)))
+
   -- a report leaves the folder, and any other command no intent
   no-intent : (request : Request) → (folder_after old).file Intent ≡ None →
       (is_report request ≡ false → (folder_after new).file Intent ≡ None) →
@@ -110,7 +132,8 @@ module _ (words : List Word) (old new : Past) (outcome : Outcome) (before now : 
       ∙ ap (λ (one : Answer). unwrap_or (new_files one.cause) (files_at old)) same in
       let change = sym (cause-change (given request).cause)
       ∙ (ap (λ (one : Answer). is_changed (cause_of_answer one.cause)) (sym same)
-      ∙ (ap is_changed (sym step.3.cause) ∙ sym is)) in
+      ∙ (seen-changes request (asks decided).1 step.0 step.1
+      ∙ (ap is_changed (sym step.3.cause) ∙ sym is))) in
       record {
         intent = λ none. no-intent request none step.3.intent step.3.report;
         leaves = λ changed.

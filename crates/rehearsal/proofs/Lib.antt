@@ -1,3 +1,4 @@
+mod ReportStays
 pub mod AloneLemmas
 pub mod TwiceLemmas
 pub mod TogetherLemmas

@@ -14,9 +14,10 @@ use Rattle.memory_folder.specs.Store.{folder_with}
 use Rattle.acct_outside.specs.Moment.{Past}
 use Rattle.account_model.specs.declared.refusal.Refusal.TheVariants.{GidInUse}
 use Rattle.account_model.specs.declared.word_fault.WordFault.{WordFault}
-use Rattle.account_model.specs.Request.{Request}
+use Rattle.account_model.specs.Request.{Request, is_report}
 use Rattle.account_model.specs.Words.{Asks, fault, is_batch, request_of}
 use Rattle.account_model.specs.Answer.{Answer, Changed, Refused, answer, deed, new_files}
+use Rattle.account_model.proofs.SeenLemmas.{sees-all}
 use Rattle.account_model.proofs.AsksLaws.{asks_iff_read, request_or_fault}
 use Rattle.account_model.proofs.DeedLaws.{faultless-deed}
 use Rattle.suite_rules.specs.Deeds.{SuiteDeeds}
@@ -101,6 +102,18 @@ first-deed : (request : Request) → Asks (group_words (codes "staff")) request 
 first-deed request asks input day files defs = faultless-deed request input day files defs
     (λ batch. absurd (true≢false (sym batch ∙ no-batch request asks)))
 
+-- whether what is asked for is a report
+abbrev asks_report : Result Request WordFault → Bool
+asks_report (Ok request) = is_report request
+asks_report (Err fault) = false
+
+-- the second request is none
+no-report : (request : Request) → Asks (group_words (codes "other")) request →
+    is_report request ≡ false
+unfolding digits
+no-report request asks =
+    ap asks_report (sym ((asks_iff_read (group_words (codes "other")) request).0 asks))
+
 -- ---- The two steps
 
 module _ (start between end : Past) (none : HasNoAccounts start) where
@@ -129,7 +142,9 @@ module _ (start between end : Past) (none : HasNoAccounts start) where
       Asks (group_words (codes "other")) request → files_at between ≡ staff_alone →
       defs_at between ≡ None → IsSomeStep request between end outcome → outcome ≡ gid_in_use
   refused-then request outcome asks files settings (input, day, step) =
-      let given = step-answer request between staff_alone files settings input day
+      let seen = ap (λ (one : Files). answer request input day one (defs_at between))
+      (sees-all request (no-report request asks) (files_at between)) in
+      let given = seen ∙ step-answer request between staff_alone files settings input day
       ∙ answer-of (codes "other") request asks input day staff_alone _
       (second-answer input day) in
       let cause = step.cause ∙ ap (λ (one : Answer). cause_of_answer one.cause) given in

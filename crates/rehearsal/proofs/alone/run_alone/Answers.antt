@@ -15,7 +15,7 @@ returns-clause-lawful g c =
       | inr found ↦ stays (c.run_suite.ensures.syntax found.0 found.1).0
       | inl asked ↦ elim (c.run_suite.ensures.ran asked.0 asked.1) [
         | inl early ↦ stays early.0
-        | inr ran ↦ ran-lawful _ _ _ _ _ _ _ _ ran.3 c.requires
+        | inr ran ↦ ran-lawful _ _ _ _ _ _ _ _ _ _ ran.3 c.requires
       ]
     ]
 
@@ -33,6 +33,6 @@ returns-clause-step g c = λ request asks decided. elim (c.run_suite.ensures.ran
     ran.0,
     ran.1,
     ran.2,
-    ran-step _ _ _ _ _ _ _ _ ran.3 c.requires asks decided,
+    ran-step _ _ _ _ _ _ _ _ _ _ ran.3 c.requires asks decided,
   )
 ]
