@@ -6,7 +6,7 @@ use Rattle.std.specs.Str.{byte}
 use Rattle.acct_text.specs.Bytes.{newline}
 use Rattle.acct_text.specs.declared.files.Files.{Files}
 use Rattle.account_model.specs.declared.given.Given.{Given}
-use Rattle.account_model.specs.declared.tool.Tool.TheVariants.{Useradd, Usermod}
+use Rattle.account_model.specs.declared.tool.Tool.TheVariants.{Batch, Useradd, Usermod}
 use Rattle.account_model.specs.Request.{Request}
 use Rattle.account_model.specs.Tables.{group_records, subuid_records}
 use Rattle.account_model.specs.Ids.{used_uids}
@@ -53,6 +53,20 @@ two_gids = refl
 two_ranges : map (λ range. range.first) (subuid_records two_users) ≡ 100000 ∷ 165536 ∷ []
 unfolding digits
 two_ranges = refl
+
+-- `batch -P R` with the lines `useradd -U ann` and `useradd -U bob`: the second chooses beside the first
+abbrev batch_of_two : Files
+batch_of_two = unwrap_or (deed
+    (record { tool = Batch; prefix = codes "R"; options = []; operands = [] })
+    (codes "useradd -U ann" ++ newline ∷ codes "useradd -U bob") 20000 empty None) empty
+
+uids_of_batch : used_uids batch_of_two ≡ 1000 ∷ 1001 ∷ []
+unfolding digits
+uids_of_batch = refl
+
+ranges_of_batch : map (λ range. range.first) (subuid_records batch_of_two) ≡ 100000 ∷ 165536 ∷ []
+unfolding digits
+ranges_of_batch = refl
 
 -- `useradd -P R -U ann`, and then `useradd -P R -N -o -u 1000 bob`: with `-o` both have one UID
 shared_uid : used_uids
