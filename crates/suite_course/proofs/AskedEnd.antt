@@ -1,7 +1,7 @@
 -- Claims: with its answer a session has asked the folder for all its calls (`asked-last`); with the name that
 -- came first these are all that the command asked for (`asked-there`, `asked-none`).
 -- Way: its last turn is the call of the answer, or none where its begin gave no token.
-use Rattle.std.proofs.Common.{◌≡◌, ap, refl, subst, ◌∙◌, ℕ, List, [], ◌∷◌, inr, Some, Result, arith}
+use Rattle.std.proofs.Common.{◌≡◌, ap, refl, subst, ◌∙◌, ℕ, List, [], ◌∷◌, inr, Some, None, Result, arith}
 use Rattle.std.specs.Prelude.{IsSome}
 use Rattle.acct_outside.specs.declared.streams.SinkFault.{SinkFault}
 use Rattle.acct_outside.specs.Calls.{answers}
@@ -18,6 +18,7 @@ use Rattle.suite_session.specs.Answers.{after_streams}
 use Rattle.suite_session.specs.Session.{answer_of, outcome_of}
 use Rattle.suite_session.specs.Stands.{AsksOnce}
 use Rattle.suite_session.specs.Turning.{SessionTurns}
+use Rattle.suite_session.proofs.TextCalls.{stages-texts}
 use Rattle.suite_course.specs.Asked.{AreWithin, AsksThere, MakesCalls}
 use Rattle.suite_course.specs.Course.{Comes, HasAsked, phase_after}
 use Rattle.suite_course.proofs.AskedLemmas.{last-made, none-shown}
@@ -128,6 +129,7 @@ asked-none asked reply entry now named = record {
       lower = 0;
       shows = none-shown [];
       within = omega arith;
+      stage = stages-texts [] None refl;
       appended = omega arith;
     };
   };

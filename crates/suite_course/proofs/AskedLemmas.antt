@@ -1,29 +1,26 @@
 -- Claim: a turn of a session that has no answer yet is one call more, within the bound (`asked-turn`).
 -- Way: each turn leaves a call fewer than there were left, the second listing with the lower locks that it
 -- showed, so the calls that were made and those that are left stay within the bound.
-use Rattle.std.proofs.Common.{◌≡◌, ◌⊎◌, refl, sym, ap, subst, ◌∙◌, ◌<◌, ◌≤◌, ◌+◌, ◌++◌, ℕ, List, [], ◌∷◌, inl, inr, Option, Some, None, Result, append_assoc, arith}
-use Rattle.std.specs.Prelude.{IsSome}
-use Rattle.std.specs.List.{AllByRecursion}
-use Rattle.acct_outside.specs.declared.streams.SinkFault.{SinkFault}
-use Rattle.acct_outside.specs.Calls.{Call, answers, begins}
+use Rattle.std.proofs.Common.{◌≡◌, ◌⊎◌, refl, sym, ap, subst, ◌∙◌, ◌≤◌, ◌+◌, ◌++◌, ℕ, List, [], ◌∷◌, inl, inr, Option, Some, None, arith}
+use Rattle.acct_outside.specs.Calls.{Call, Command, answers, begins}
 use Rattle.acct_outside.specs.Journal.{Entry, Reply, makes, showed, was_done, was_refused}
 use Rattle.acct_outside.specs.Moment.{Moment, Past}
 use Rattle.suite_answers.specs.declared.answer.Answer.{Answer}
-use Rattle.suite_answers.specs.declared.cause.Outcome.{Outcome}
 use Rattle.suite_session.specs.declared.state.State.{State}
 use Rattle.suite_session.specs.declared.state.State.TheVariants.{Looking, Reading, Asking, Claiming, Confirming, Answering}
 use Rattle.suite_session.specs.declared.session.Phase.{Phase}
 use Rattle.suite_session.specs.declared.session.Phase.TheVariants.{Waiting, Begun, Over, Unbegun}
-use Rattle.suite_session.specs.Runner.{Question, Runner}
-use Rattle.suite_session.specs.Answers.{after_streams}
+use Rattle.suite_session.specs.Runner.{Runner}
 use Rattle.suite_session.specs.Counts.{CountsTo, IsToList, LeavesFewer, Nears, appends_by, last_lower, others_by}
-use Rattle.suite_session.specs.Left.{appends_left, calls_left, most_appends, most_calls, most_lower, watching_calls}
+use Rattle.suite_session.specs.Left.{appends_left, calls_left, most_lower, watching_calls}
 use Rattle.suite_session.specs.NextCall.{state_call}
-use Rattle.suite_session.specs.Session.{answer_of, given_in, outcome_of}
+use Rattle.suite_session.specs.Session.{answer_of, given_in}
 use Rattle.suite_session.specs.Stands.{AsksOnce, IsAnswering}
+use Rattle.suite_session.specs.Texts.{GoesOn, LeadTo}
 use Rattle.suite_session.specs.Turning.{IsFirst, SessionTurns}
-use Rattle.suite_course.specs.Asked.{AreWithin, EndsWhereRefused, IsAnswer, IsCall, MakesCalls, ShowsLower, WasDone, appends_asked, others_asked}
-use Rattle.suite_course.specs.Course.{HasAsked, HasMade, MadeWithin, phase_after}
+use Rattle.suite_session.proofs.TextCalls.{lead-first, lead-last, lead-then, stages-texts}
+use Rattle.suite_course.specs.Asked.{AreWithin, ShowsLower, WasDone, calls_asked}
+use Rattle.suite_course.specs.Course.{HasAsked, HasMade, MadeWithin}
 
 -- ---- The lower locks that were shown
 
@@ -76,8 +73,9 @@ last-shown call reply calls older journal lower is (inr shown) = record {
 module _ (call : Call) (reply : Reply) (calls : List Entry) (one_other : others_by call ≡ 1)
     (no_append : appends_by call ≡ 0) where
   nears-made : (old next : State) → 53 + most_lower ≤ calls_left old → Nears old next →
+      LeadTo (call ∷ calls_asked calls) next →
       HasMade old calls → HasMade next (makes call reply ∷ calls)
-  nears-made old next early counts made = by-next counts.next
+  nears-made old next early counts leads made = by-next counts.next
     where
       by-next : IsToList next ⊎ (calls_left next ≤ watching_calls) →
           HasMade next (makes call reply ∷ calls)
@@ -87,6 +85,7 @@ module _ (call : Call) (reply : Reply) (calls : List Entry) (one_other : others_
         shows = inl to_list;
         within = (let within = made.within in let fewer = counts.fewer in
             omega (arith, one_other, within, fewer));
+        leads = leads;
         appended = (let appended = made.appended in let fewer = counts.appends in
             omega (arith, no_append, appended, fewer));
       }
@@ -96,21 +95,24 @@ module _ (call : Call) (reply : Reply) (calls : List Entry) (one_other : others_
         shows = inr (none-shown (makes call reply ∷ calls));
         within = (let within = made.within in let most = made.most in
             omega (arith, one_other, within, most, early, few));
+        leads = leads;
         appended = (let appended = made.appended in let fewer = counts.appends in
             omega (arith, no_append, appended, fewer));
       }
 
 -- one call more behind it
 fewer-made : (call : Call) (reply : Reply) (calls : List Entry) (old next : State) →
-    state_call old ≡ call → (IsToList old → ⊥) → LeavesFewer old next → HasMade old calls →
+    state_call old ≡ call → (IsToList old → ⊥) → LeavesFewer old next →
+    LeadTo (call ∷ calls_asked calls) next → HasMade old calls →
     HasMade next (makes call reply ∷ calls)
-fewer-made call reply calls old next is behind fewer made = record {
+fewer-made call reply calls old next is behind fewer leads made = record {
   lower = made.lower;
   most = made.most;
   shows = by-shown made.shows;
   within = (let within = made.within in
       let few = subst (λ (one : Call). calls_left next + others_by one ≤ calls_left old) is
       fewer.calls in omega (arith, within, few));
+  leads = leads;
   appended = (let appended = made.appended in
       let few = subst (λ (one : Call). appends_left next + appends_by one ≤ appends_left old) is
       fewer.appends in omega (arith, appended, few));
@@ -121,6 +123,12 @@ fewer-made call reply calls old next is behind fewer made = record {
     by-shown (inl to_list) = absurd (behind to_list)
     by-shown (inr shows) = inr (shown-on (makes call reply) calls made.lower shows)
 
+-- with the next call they lead to what the next state has staged
+call-leads : (calls : List Entry) (old next : State) → GoesOn old next → HasMade old calls →
+    LeadTo (state_call old ∷ calls_asked calls) next
+call-leads calls old next goes_on made =
+    lead-then (calls_asked calls) old next goes_on made.leads
+
 -- each turn
 turn-made : (told : Option Past) (runner : Runner) (reply : Reply)
     (calls older journal : List Entry)
@@ -128,52 +136,60 @@ turn-made : (told : Option Past) (runner : Runner) (reply : Reply)
     CountsTo told journal runner old next → HasMade old calls →
     HasMade next (makes (state_call old) reply ∷ calls)
 turn-made told runner reply calls older journal (Looking looking) next is counts made =
-    nears-made _ reply calls refl refl (Looking looking) next (omega arith) counts made
+    nears-made _ reply calls refl refl (Looking looking) next (omega arith) counts
+    (call-leads calls (Looking looking) next counts.goes_on made) made
 turn-made told runner reply calls older journal (Reading seen) next is counts made =
-    nears-made _ reply calls refl refl (Reading seen) next (omega arith) counts made
+    nears-made _ reply calls refl refl (Reading seen) next (omega arith) counts
+    (call-leads calls (Reading seen) next counts.goes_on made) made
 turn-made told runner reply calls older journal (Asking asking) next is counts made =
-    nears-made _ reply calls refl refl (Asking asking) next (omega arith) counts made
+    nears-made _ reply calls refl refl (Asking asking) next (omega arith) counts
+    (call-leads calls (Asking asking) next counts.goes_on made) made
 turn-made told runner reply calls older journal (Claiming judged) next is counts made =
-    nears-made _ reply calls refl refl (Claiming judged) next (omega arith) counts made
+    nears-made _ reply calls refl refl (Claiming judged) next (omega arith) counts
+    (call-leads calls (Claiming judged) next counts.goes_on made) made
 turn-made told runner reply calls older journal (Confirming claimed) next is counts made = record {
   lower = counts.lower;
   most = counts.most;
   shows = inr (last-shown _ reply calls older journal counts.lower is counts.shown);
   within = (let within = made.within in let most = made.most in let fewer = counts.fewer in
       omega (arith, within, most, fewer));
+  leads = call-leads calls (Confirming claimed) next counts.goes_on made;
   appended = (let appended = made.appended in let fewer = counts.appends in
       omega (arith, appended, fewer));
 }
 turn-made told runner reply calls older journal old next is counts made =
-    fewer-made (state_call old) reply calls old next refl (λ never. never) counts made
+    fewer-made (state_call old) reply calls old next refl (λ never. never) counts
+    (call-leads calls old next counts.goes_on made) made
 
 -- the begin
-first-made : (runner : Runner) (call : Call) (reply : Reply) (state : State) → others_by call ≡ 1 →
-    appends_by call ≡ 0 → IsFirst runner state → HasMade state (makes call reply ∷ [])
-first-made runner call reply (Looking looking) one none is = record {
+first-made : (runner : Runner) (command : Command) (reply : Reply) (state : State) →
+    IsFirst runner state → HasMade state (makes (begins command) reply ∷ [])
+first-made runner command reply (Looking looking) is = record {
   lower = most_lower;
   most = omega arith;
   shows = inl tt;
-  within = omega (arith, one);
-  appended = omega (arith, none);
+  within = omega arith;
+  leads = lead-first command (Looking looking) refl;
+  appended = omega arith;
 }
-first-made runner call reply (Answering answer) one none is = record {
+first-made runner command reply (Answering answer) is = record {
   lower = 0;
   most = omega arith;
-  shows = inr (none-shown (makes call reply ∷ []));
-  within = omega (arith, one);
-  appended = omega (arith, none);
+  shows = inr (none-shown (makes (begins command) reply ∷ []));
+  within = omega arith;
+  leads = lead-first command (Answering answer) tt;
+  appended = omega arith;
 }
-first-made runner call reply state one none is = absurd is
+first-made runner command reply state is = absurd is
 
 -- a begin that gave no token
-one-within : (call : Call) (reply : Reply) → others_by call ≡ 1 → appends_by call ≡ 0 →
-    AreWithin (makes call reply ∷ [])
-one-within call reply one none = record {
+one-within : (command : Command) (reply : Reply) → AreWithin (makes (begins command) reply ∷ [])
+one-within command reply = record {
   lower = 0;
-  shows = none-shown (makes call reply ∷ []);
-  within = omega (arith, one);
-  appended = omega (arith, none);
+  shows = none-shown (makes (begins command) reply ∷ []);
+  within = omega arith;
+  stage = stages-texts (begins command ∷ []) None (None, refl, (refl, refl));
+  appended = omega arith;
 }
 
 -- the answer
@@ -183,6 +199,7 @@ last-made reply status calls answer made = record {
   lower = made.lower;
   shows = shown-on (makes (answers status) reply) calls made.lower (by-shown made.shows);
   within = (let within = made.within in omega (arith, within));
+  stage = lead-last status (calls_asked calls) (Answering answer) made.leads;
   appended = (let appended = made.appended in omega (arith, appended));
 }
   where
@@ -237,13 +254,13 @@ asked-turn entry between now (Waiting question) (Begun runner state) asked none 
     one-more entry between now (Waiting question) (Begun runner state) asked none _ _ asks
     (λ going. goes-done between now _ state asks going)
     (alone-begun asked.calls (makes (begins question.command) asks.reply) (HasMade state)
-    asked.within (first-made runner _ asks.reply state refl refl turns.3))
+    asked.within (first-made runner _ asks.reply state turns.3))
 asked-turn entry between now (Waiting question) (Unbegun tool answer) asked none turns =
     let asks = turns.2 in
     one-more entry between now (Waiting question) (Unbegun tool answer) asked none _ _ asks
     (λ going. absurd (cc going))
     (alone-begun asked.calls (makes (begins question.command) asks.reply) AreWithin
-    asked.within (one-within _ asks.reply refl refl))
+    asked.within (one-within _ asks.reply))
 asked-turn entry between now (Begun runner state) (Begun same next) asked none turns =
     let asks = turns.1.asks in
     one-more entry between now (Begun runner state) (Begun same next) asked none _ _ asks

@@ -6,7 +6,7 @@ use Rattle.std.proofs.Common.{◌⊎◌, inl, inr, refl, subst, true, ◌≡◌,
 use Rattle.acct_outside.specs.Contract.{RunsIn}
 use Rattle.acct_outside.specs.Others.{Admission}
 use Rattle.acct_outside.specs.Tokens.{Token}
-use Rattle.acct_outside.specs.History.{History}
+use Rattle.acct_outside.specs.History.{History, own_events}
 use Rattle.acct_outside.specs.Moment.{Past, Moment}
 use Rattle.suite_rules.specs.Deeds.{SuiteDeeds}
 use Rattle.suite_rules.specs.Lawful.{Lawful}
@@ -23,7 +23,7 @@ use Rattle.suite_session.specs.Reports.{RunsFree}
 use Rattle.suite_session.specs.Answers.{Says}
 use Rattle.suite_session.specs.Backing.{BackedUpChanges}
 use Rattle.suite_session.specs.Belongs.{Belongs, CameTo}
-use Rattle.suite_session.specs.Bound.{HasCalled, HasCalledFree, IsWithin}
+use Rattle.suite_session.specs.Bound.{HasCalled, HasCalledFree, IsWithin, calls_of}
 use Rattle.suite_session.specs.Counts.{CountsLower}
 use Rattle.suite_session.specs.Deeds.{AreOfTools}
 use Rattle.suite_session.specs.Due.{IsDue}
@@ -34,6 +34,7 @@ use Rattle.suite_session.specs.Telling.{DropsNothing}
 use Rattle.suite_session.proofs.LooksLemmas.{looked-once}
 use Rattle.suite_session.proofs.MetLemmas.{told-as}
 use Rattle.suite_session.proofs.StreamLemmas.{left-given}
+use Rattle.suite_session.proofs.TextCalls.{stages-texts}
 use Rattle.suite_course.specs.Turned.{AnswersKeepPromises, KeepsPromises, Promises}
 use Rattle.suite_course.proofs.AloneStaging.{HasCome}
 use Rattle.suite_course.proofs.CompleteLemmas.{answers-as}
@@ -53,6 +54,8 @@ called-within token answer history called = by-counts called.counts
       counts = counts;
       within = omega (arith, called.within);
       appended = omega (arith, called.appended);
+      stage = stages-texts (calls_of (own_events token history)) called.leads.text
+          called.leads.leave;
     }
 
 -- so a report has changed no name by the end of its way

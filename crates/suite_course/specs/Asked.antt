@@ -3,11 +3,12 @@
 -- the newest first.
 use Rattle.std.specs.Prelude.{◌≡◌, ◌⊎◌, ⊤, ℕ, ◌+◌, ◌≤◌, List, [], ◌∷◌, ◌++◌}
 use Rattle.std.specs.List.{AllByRecursion}
-use Rattle.acct_outside.specs.Calls.{answers}
+use Rattle.acct_outside.specs.Calls.{Call, answers}
 use Rattle.acct_outside.specs.Journal.{Entry, Reply, enters, makes, was_refused}
 use Rattle.suite_session.specs.Runner.{Question}
 use Rattle.suite_session.specs.Counts.{appends_by, last_lower, others_by}
 use Rattle.suite_session.specs.Left.{most_appends, most_calls}
+use Rattle.suite_session.specs.Texts.{StageTexts}
 
 -- the folder was asked for a call, and was given no name
 abbrev pub IsCall : Entry → Type 0
@@ -31,6 +32,12 @@ EndsWhereRefused [] = ⊤
 EndsWhereRefused (entry ∷ older) =
     (AllByRecursion WasDone older ⊎ IsAnswer entry) × EndsWhereRefused older
 
+-- the calls that it was asked for
+abbrev pub calls_asked : List Entry → List Call
+calls_asked [] = []
+calls_asked (makes call reply ∷ older) = call ∷ calls_asked older
+calls_asked (entry ∷ older) = calls_asked older
+
 -- how many of the calls are appends
 abbrev pub appends_asked : List Entry → ℕ
 appends_asked [] = 0
@@ -50,12 +57,14 @@ pub record ShowsLower (calls : List Entry) (lower : ℕ) : Type 0 where
   pub parts : calls ≡ later ++ earlier
   pub shown : lower ≡ last_lower earlier
 
--- the calls but appends are at most most_calls, and one for each lower lock that a listing among them
--- showed; the appends are at most most_appends
+-- The calls but appends are at most most_calls, and one for each lower lock that a listing among them
+-- showed. What is written and appended is one text after another in its pieces, each piece once and in its
+-- order, so an append for each piece behind the first of a text, and most_appends at most.
 pub record AreWithin (calls : List Entry) : Type 0 where
   pub lower : ℕ
   pub shows : ShowsLower calls lower
   pub within : others_asked calls ≤ most_calls + lower
+  pub stage : StageTexts (calls_asked calls)
   pub appended : appends_asked calls ≤ most_appends
 
 -- Since the older journal the folder was asked for these calls alone: it was given no name, after one that

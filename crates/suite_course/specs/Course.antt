@@ -17,8 +17,9 @@ use Rattle.suite_session.specs.Counts.{IsToList}
 use Rattle.suite_session.specs.Left.{appends_left, calls_left, most_appends, most_calls, most_lower}
 use Rattle.suite_session.specs.Session.{answer_of, outcome_of, output_failed}
 use Rattle.suite_session.specs.Stands.{IsOutside, TellsOutside, TurnsTo}
+use Rattle.suite_session.specs.Texts.{LeadTo}
 use Rattle.suite_session.specs.Turning.{HasAnswered, IsNew, IsUnbegun, SessionTurns}
-use Rattle.suite_course.specs.Asked.{AreWithin, EndsWhereRefused, IsCall, ShowsLower, WasDone, appends_asked, others_asked}
+use Rattle.suite_course.specs.Asked.{AreWithin, EndsWhereRefused, IsCall, ShowsLower, WasDone, appends_asked, calls_asked, others_asked}
 use Rattle.suite_course.specs.Streams.{Streams, Serves}
 
 -- The session, which was asked this, came so far before its last call: its events led to its state. Until
@@ -48,13 +49,14 @@ abbrev pub made_in : Phase → ℕ → ℕ
 made_in (Waiting question) made = 0
 made_in phase made = made
 
--- On its way a session has made these calls: with those that are left they are within the bound. Before its
--- second listing as many lower locks are counted as one can show.
+-- On its way a session has made these calls: with those that are left they are within the bound, and they
+-- lead to what it has staged. Before its second listing as many lower locks are counted as one can show.
 pub record HasMade (state : State) (calls : List Entry) : Type 0 where
   pub lower : ℕ
   pub most : lower ≤ most_lower
   pub shows : IsToList state ⊎ ShowsLower calls lower
   pub within : others_asked calls + calls_left state ≤ most_calls + lower
+  pub leads : LeadTo (calls_asked calls) state
   pub appended : appends_asked calls + appends_left state ≤ most_appends
 
 -- these are the calls of a session, which come within the bound

@@ -137,10 +137,10 @@ first-called : (runner : Runner) (state : State) (history : History) →
     } ∷ [] → IsFirst runner state → HasCalled runner.token state history
 first-called runner (Looking looking) history only is =
     called-first runner.token runner.asked.command (Looking looking) history most_lower only
-    (omega arith) (inl tt) (omega arith) (omega arith)
+    (omega arith) (inl tt) (omega arith) (omega arith) refl
 first-called runner (Answering answer) history only is =
     called-first runner.token runner.asked.command (Answering answer) history 0 only
-    (omega arith) (inr (inl refl)) (omega arith) (omega arith)
+    (omega arith) (inr (inl refl)) (omega arith) (omega arith) tt
 first-called runner state history only is = absurd is
 
 -- so a report has changed no name

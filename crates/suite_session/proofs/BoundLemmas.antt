@@ -3,7 +3,7 @@
 -- (`called-last`), and events of others (`called-still`, `within-still`).
 -- Way: of a turn's new events one at most is the session's, of the call of its state (`grew-by`), and one
 -- such call fewer is left; each new event says itself which table it backs up.
-use Rattle.std.proofs.Common.{List, ◌≡◌, ◌⊎◌, refl, sym, ap, subst, ◌<◌, ◌≤◌, ◌+◌, ◌∙◌, ◌++◌, [], ◌∷◌, ℕ, Bool, true, false, not, cond, filter, length, inl, inr, Some, arith}
+use Rattle.std.proofs.Common.{List, ◌≡◌, ◌⊎◌, refl, sym, ap, subst, ◌<◌, ◌≤◌, ◌+◌, ◌∙◌, ◌++◌, [], ◌∷◌, ℕ, Bool, true, false, not, cond, filter, length, inl, inr, Some, None, arith}
 use Rattle.std.specs.List.{AllByRecursion}
 use Rattle.acct_outside.specs.Tokens.{Token}
 use Rattle.acct_outside.specs.Calls.{Answer as CallAnswer, Call, CallResult, Command, answers, begins, done}
@@ -18,15 +18,18 @@ use Rattle.suite_session.specs.declared.state.State.TheVariants.{Looking, Readin
 use Rattle.suite_session.specs.Runner.{Runner}
 use Rattle.suite_session.specs.Backing.{BackedUpChanges}
 use Rattle.suite_session.specs.Belongs.{of_others}
-use Rattle.suite_session.specs.Bound.{HasCalled, IsWithin, appends_in, others_in}
+use Rattle.suite_session.specs.Bound.{HasCalled, IsWithin, appends_in, calls_of, others_in}
 use Rattle.suite_session.specs.Counts.{CountsLower, CountsTo, IsToList, LeavesFewer, Nears, appends_by, others_by}
 use Rattle.suite_session.specs.Grows.{Grows}
 use Rattle.suite_session.specs.Left.{appends_left, calls_left, is_append, most_appends, most_calls, most_lower, watching_calls}
 use Rattle.suite_session.specs.NextCall.{state_call}
+use Rattle.suite_session.specs.Stands.{FindsNoMemory}
+use Rattle.suite_session.specs.Texts.{GoesOn, HoldsText, LeadTo, StageTexts}
 use Rattle.suite_session.proofs.BackingLemmas.{NeverBacksUp, own-backed, grows-backed}
 use Rattle.suite_session.proofs.DueLemmas.{met-later}
 use Rattle.acct_outside.specs.Journal.{Entry}
 use Rattle.suite_session.proofs.GrowsLemmas.{grows-extends, others-extend, others-grow}
+use Rattle.suite_session.proofs.TextCalls.{lead-first, lead-last, lead-none, lead-then}
 
 -- ---- Own events
 
@@ -83,6 +86,18 @@ grew-by was past token call NoMemory (inr none) =
     let appends = ap appends_in none.1 in
     let others = ap others_in none.1 in
     record { appends = omega (arith, appends); others = omega (arith, others) }
+
+-- so they lead to what the next state has staged
+led-then : (was past : Past) (token : Token) (old next : State) →
+    OneMade was past token (state_call old) (FindsNoMemory next) → GoesOn old next →
+    LeadTo (calls_of (own_events token was.history)) old →
+    LeadTo (calls_of (own_events token past.history)) next
+led-then was past token old next (inl made) goes_on lead =
+    subst (λ (events : History). LeadTo (calls_of events) next) (sym made.1)
+    (lead-then (calls_of (own_events token was.history)) old next goes_on lead)
+led-then was past token old next (inr none) goes_on lead =
+    subst (λ (events : History). LeadTo (calls_of events) next) (sym none.1)
+    (lead-none (calls_of (own_events token was.history)) old next none.0 lead)
 
 -- ---- Lower locks
 
@@ -145,13 +160,15 @@ pub called-first : (token : Token) (command : Command) (state : State) (history 
     ≡ record { token = token; call = begins command; result = done tt } ∷ [] →
     lower ≤ most_lower → IsToList state ⊎ CountsLower token history lower →
     calls_left state + 1 ≤ most_calls + lower → appends_left state ≤ most_appends →
-    HasCalled token state history
-called-first token command state history lower only most counts fewer few = record {
+    HoldsText state None → HasCalled token state history
+called-first token command state history lower only most counts fewer few holds = record {
   lower = lower;
   most = most;
   counts = counts;
   within = sums-first _ _ lower (ap others_in only) fewer;
   appended = (let none = ap appends_in only in omega (arith, none, few));
+  leads = subst (λ (events : History). LeadTo (calls_of events) state) (sym only)
+      (lead-first command state holds);
 }
 
 -- and has backed up nothing
@@ -186,8 +203,9 @@ module _ (admits : Admission) (runner : Runner) (was past : Past)
     -- before the second listing a turn leads on towards it, or leaves no more calls than a report has
     nears-then : (next state : State) → others_by call ≡ 1 → appends_by call ≡ 0 →
         20 + most_lower ≤ calls_left state → Nears state next →
+        LeadTo (calls_of (own_events runner.token past.history)) next →
         HasCalled runner.token state was.history → HasCalled runner.token next past.history
-    nears-then next state one none high nears called = by-next nears.next
+    nears-then next state one none high nears leads called = by-next nears.next
       where
         by-next : IsToList next ⊎ (calls_left next ≤ watching_calls) →
             HasCalled runner.token next past.history
@@ -199,6 +217,7 @@ module _ (admits : Admission) (runner : Runner) (was past : Past)
               called.within;
           appended = sums-same _ _ _ _ _ most_appends grew.appends none nears.appends
               called.appended;
+          leads = leads;
         }
         by-next (inr few) = record {
           lower = 0;
@@ -208,13 +227,16 @@ module _ (admits : Admission) (runner : Runner) (was past : Past)
               called.within;
           appended = sums-same _ _ _ _ _ most_appends grew.appends none nears.appends
               called.appended;
+          leads = leads;
         }
 
     -- after it a turn leaves a call fewer
     fewer-then : (next state : State) → state_call state ≡ call → (IsToList state → ⊥) →
-        LeavesFewer state next → HasCalled runner.token state was.history →
+        LeavesFewer state next →
+        LeadTo (calls_of (own_events runner.token past.history)) next →
+        HasCalled runner.token state was.history →
         HasCalled runner.token next past.history
-    fewer-then next state called_is listed fewer called = record {
+    fewer-then next state called_is listed fewer leads called = record {
       lower = called.lower;
       most = called.most;
       counts = counted-on state next called.lower listed called.counts;
@@ -224,31 +246,32 @@ module _ (admits : Admission) (runner : Runner) (was past : Past)
       appended = sums-then _ _ _ _ (appends_by call) _ grew.appends
           (subst (λ (one : Call). appends_left next + appends_by one ≤ appends_left state)
           called_is fewer.appends) called.appended;
+      leads = leads;
     }
 
   -- so its calls are within the bound after the next turn
-  pub called-then : (next state : State) (NoMemory : Type 0) (journal : List Entry) →
-      OneMade was past runner.token (state_call state) NoMemory →
+  pub called-then : (next state : State) (journal : List Entry) →
+      OneMade was past runner.token (state_call state) (FindsNoMemory next) →
       CountsTo (Some past) journal runner state next → HasCalled runner.token state was.history →
       HasCalled runner.token next past.history
-  called-then next (Looking looking) NoMemory journal made counts called =
-      nears-then (state_call (Looking looking)) (grew-by was past runner.token _ NoMemory made) next
-      (Looking looking) refl refl
-      (omega arith) counts called
-  called-then next (Reading seen) NoMemory journal made counts called =
-      nears-then (state_call (Reading seen)) (grew-by was past runner.token _ NoMemory made) next
-      (Reading seen) refl refl
-      (omega arith) counts called
-  called-then next (Asking asking) NoMemory journal made counts called =
-      nears-then (state_call (Asking asking)) (grew-by was past runner.token _ NoMemory made) next
-      (Asking asking) refl refl
-      (omega arith) counts called
-  called-then next (Claiming judged) NoMemory journal made counts called =
-      nears-then (state_call (Claiming judged)) (grew-by was past runner.token _ NoMemory made) next
-      (Claiming judged) refl refl
-      (omega arith) counts called
-  called-then next (Confirming claimed) NoMemory journal made counts called =
-      let grew = grew-by was past runner.token (state_call (Confirming claimed)) NoMemory made in
+  called-then next (Looking looking) journal made counts called =
+      nears-then (state_call (Looking looking)) (grew-by was past runner.token _ _ made) next
+      (Looking looking) refl refl (omega arith) counts
+      (led-then was past runner.token (Looking looking) next made counts.goes_on called.leads) called
+  called-then next (Reading seen) journal made counts called =
+      nears-then (state_call (Reading seen)) (grew-by was past runner.token _ _ made) next
+      (Reading seen) refl refl (omega arith) counts
+      (led-then was past runner.token (Reading seen) next made counts.goes_on called.leads) called
+  called-then next (Asking asking) journal made counts called =
+      nears-then (state_call (Asking asking)) (grew-by was past runner.token _ _ made) next
+      (Asking asking) refl refl (omega arith) counts
+      (led-then was past runner.token (Asking asking) next made counts.goes_on called.leads) called
+  called-then next (Claiming judged) journal made counts called =
+      nears-then (state_call (Claiming judged)) (grew-by was past runner.token _ _ made) next
+      (Claiming judged) refl refl (omega arith) counts
+      (led-then was past runner.token (Claiming judged) next made counts.goes_on called.leads) called
+  called-then next (Confirming claimed) journal made counts called =
+      let grew = grew-by was past runner.token (state_call (Confirming claimed)) _ made in
       record {
         lower = counts.lower;
         most = counts.most;
@@ -257,19 +280,29 @@ module _ (admits : Admission) (runner : Runner) (was past : Past)
             called.within;
         appended = sums-same _ _ _ _ _ most_appends grew.appends refl counts.appends
             called.appended;
+        leads = led-then was past runner.token (Confirming claimed) next made counts.goes_on
+            called.leads;
       }
-  called-then next state NoMemory journal made counts called =
-      fewer-then (state_call state) (grew-by was past runner.token _ NoMemory made) next state refl
-      (λ is. is) counts called
+  called-then next state journal made counts called =
+      fewer-then (state_call state) (grew-by was past runner.token _ _ made) next state refl
+      (λ is. is) counts
+      (led-then was past runner.token state next made counts.goes_on called.leads) called
 
   -- and with its answer
-  pub called-last : (given : Answer) (status : ℕ) (NoMemory : Type 0) →
-      OneMade was past runner.token (answers status) NoMemory →
+  pub called-last : (given : Answer) (status : ℕ) →
+      OneMade was past runner.token (answers status) ⊥ →
       HasCalled runner.token (Answering given) was.history → IsWithin runner.token past.history
-  called-last given status NoMemory made called = by-counts called.counts
+  called-last given status made called = by-counts called.counts
     where
       grew : GrewBy was past runner.token (answers status)
-      grew = grew-by was past runner.token (answers status) NoMemory made
+      grew = grew-by was past runner.token (answers status) ⊥ made
+
+      by-made : OneMade was past runner.token (answers status) ⊥ →
+          StageTexts (calls_of (own_events runner.token past.history))
+      by-made (inl one) = subst (λ (events : History). StageTexts (calls_of events)) (sym one.1)
+          (lead-last status (calls_of (own_events runner.token was.history)) (Answering given)
+          called.leads)
+      by-made (inr none) = absurd none.0
 
       by-counts : ⊥ ⊎ CountsLower runner.token was.history called.lower →
           IsWithin runner.token past.history
@@ -280,6 +313,7 @@ module _ (admits : Admission) (runner : Runner) (was past : Past)
             called.lower counts;
         within = sums-last _ _ _ _ grew.others called.within;
         appended = sums-last _ _ _ _ grew.appends called.appended;
+        stage = by-made made;
       }
 
 -- ---- After events of others
@@ -320,6 +354,8 @@ module _ (token : Token) (old new : History) (came : ByOthers (of_others token) 
         (sym others-leave.same_events) called.within;
     appended = subst (λ (events : History). appends_in events + appends_left state ≤ most_appends)
         (sym others-leave.same_events) called.appended;
+    leads = subst (λ (events : History). LeadTo (calls_of events) state)
+        (sym others-leave.same_events) called.leads;
   }
 
   pub within-still : IsWithin token old → IsWithin token new
@@ -331,4 +367,6 @@ module _ (token : Token) (old new : History) (came : ByOthers (of_others token) 
         (sym others-leave.same_events) called.within;
     appended = subst (λ (events : History). appends_in events ≤ most_appends)
         (sym others-leave.same_events) called.appended;
+    stage = subst (λ (events : History). StageTexts (calls_of events))
+        (sym others-leave.same_events) called.stage;
   }

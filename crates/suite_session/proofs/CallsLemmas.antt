@@ -1,28 +1,22 @@
 -- Claims: each turn up to the commit's leaves an append fewer where it makes one, and else another call
--- fewer (`append-fewer`, `other-fewer`, `look-calls` to `moved-calls`, `cleaned-calls`), and the second
--- listing as many more as it shows lower locks (`listing-calls`). Way: by the state that follows, whose
--- keeper is the one before; six tables at most are listed.
-use Rattle.std.proofs.Common.{◌≡◌, refl, sym, ap, subst, ◌<◌, ◌≤◌, ◌+◌, ℕ, zero, suc, Bool, true, false, nat_lt, filter, List, ◌∷◌, ◌∙◌, length, length-drop, drop, slice_get, inl, inr, Option, Some, None, IfSome, Result, Ok, Err, if◌then◌else◌, arith}
+-- fewer (`append-fewer`, `other-fewer`, `intent-calls` to `moved-calls`, `cleaned-calls`). Way: by the state
+-- that follows, whose keeper is the one before; six tables at most are listed. Those up to the second listing
+-- are in LockCalls.
+use Rattle.std.proofs.Common.{◌≡◌, refl, sym, ap, subst, ◌<◌, ◌≤◌, ◌+◌, ℕ, zero, suc, Bool, true, false, nat_lt, List, ◌∙◌, length, length-drop, drop, slice_get, inl, inr, Option, Some, None, IfSome, Result, Ok, Err, if◌then◌else◌, arith}
 use Rattle.std.specs.Prelude.{option_map, unwrap_or}
 use Rattle.std.proofs.lemmas.List.{length-map}
 use Rattle.acct_outside.specs.declared.FolderFault.{FolderFault}
-use Rattle.acct_outside.specs.declared.Name.TheVariants.{Backup, BackupStage, FreeStage, Intent, IntentStage, Lock}
+use Rattle.acct_outside.specs.declared.Name.TheVariants.{Backup, BackupStage, FreeStage, Intent, IntentStage, Lock, Staged}
 use Rattle.acct_outside.specs.Calls.{Call, Found, appends, found_absent, found_bytes, found_too_large, lists, removes, reads as reads_name, renames, writes}
 use Rattle.acct_outside.specs.Pieces.{piece_at}
 use Rattle.acct_outside.specs.Moment.{Past}
-use Rattle.acct_outside.specs.Tokens.{Token, free_text}
+use Rattle.acct_outside.specs.Tokens.{free_text}
 use Rattle.account_model.specs.declared.tool.Tool.{Tool}
-use Rattle.account_model.specs.Request.{Request, is_report}
 use Rattle.acct_text.specs.Bytes.{Bytes}
 use Rattle.intent_file.specs.Intent.{Intended, NewTable, ReadsIntent}
 use Rattle.intent_file.proofs.Reading.{allowed_parts, at_most_six}
-use Rattle.lock_steps.specs.Stands.{HasMade}
-use Rattle.lock_steps.specs.States.{Asker, Lister, Kept, Maker}
-use Rattle.lock_steps.specs.Outcomes.{Confirms, cleaned_once}
-use Rattle.lock_steps.specs.declared.judging.Told.{Told}
-use Rattle.lock_steps.specs.declared.judging.Told.TheVariants.{Judged, Ask}
-use Rattle.lock_steps.specs.declared.claiming.Confirmed.{Confirmed}
-use Rattle.lock_steps.specs.declared.claiming.Confirmed.TheVariants.{Keeper, Loser}
+use Rattle.lock_steps.specs.States.{Kept, Maker}
+use Rattle.lock_steps.specs.Outcomes.{cleaned_once}
 use Rattle.suite_rules.specs.Outcomes.{installs, pieces_left, stages, stages_more}
 use Rattle.lock_steps.specs.NextCall.{next_or}
 use Rattle.recovery.specs.States.{Mover, Recoverer, appended_once, moved_once, mover_of, moving_pieces}
@@ -39,18 +33,17 @@ use Rattle.suite_answers.specs.declared.cause.Cause.TheVariants.{IntentDamaged, 
 use Rattle.suite_answers.specs.declared.cause.Which.TheVariants.{File}
 use Rattle.suite_answers.specs.declared.answer.Answer.{Answer as FinalAnswer}
 use Rattle.suite_session.specs.declared.state.State.{State}
-use Rattle.suite_session.specs.declared.state.State.TheVariants.{Looking, Reading, Asking, Claiming, Unlocking, Answering, BackingUp, Committing, Confirming, Gathering, Installing, Loading, Moving, ReadingIntent, Recovering, Watching}
+use Rattle.suite_session.specs.declared.state.State.TheVariants.{Unlocking, Answering, BackingUp, Committing, Confirming, Gathering, Installing, Loading, Moving, ReadingIntent, Recovering}
 use Rattle.suite_session.specs.Runner.{Runner}
-use Rattle.suite_session.specs.Causes.{Met}
-use Rattle.suite_session.specs.Counts.{CountsLower, LeavesFewer, Listed, Nears, last_lower}
+use Rattle.suite_session.specs.Counts.{CountsLower, LeavesFewer, Listed, Nears}
 use Rattle.suite_session.specs.Left.{appends_left, calls_left, is_append, leaving_calls, loading_calls, new_texts, table_appends, texts_appends}
 use Rattle.suite_session.specs.NextCall.{state_call}
-use Rattle.suite_session.specs.Locking.{ShowsFew, after_judging, after_look, after_read, after_listing}
 use Rattle.suite_session.specs.Recovering.{after_intent, Refuses}
 use Rattle.suite_session.specs.Stands.{AnswersWith, LeavesWith}
+use Rattle.suite_session.specs.Texts.{HoldsText, table_text}
 use Rattle.suite_session.proofs.AppendsLemmas.{begun-same, listed-begun, listed-fewer, listed-most, listed-small, tables-most}
-use Rattle.acct_outside.specs.Journal.{Entry, makes, reply_of}
-use Rattle.suite_session.proofs.MetLemmas.{told-as}
+use Rattle.acct_outside.specs.Journal.{Entry}
+use Rattle.suite_session.proofs.TextsLemmas.{answers-hold, answers-on, freed-none, goes, leaves-hold, moved-more, moved-whole, recovered-none, staged_then}
 
 -- ---- What is left
 
@@ -160,24 +153,26 @@ one-append state some = absurd (omega (arith, some))
 
 -- a turn with another call leaves such a call fewer, and no more appends
 pub other-fewer : (old new : State) → pieces_in old ≡ 0 → calls_left new < calls_left old →
-    appends_left new ≤ appends_left old → LeavesFewer old new
-other-fewer old new whole calls few = record {
+    appends_left new ≤ appends_left old → HoldsText new (staged_then old) → LeavesFewer old new
+other-fewer old new whole calls few holds = record {
   calls = subst (λ (append : Bool). calls_left new + (if append then 0 else 1) ≤ calls_left old)
       (sym (no-append old whole)) (omega (arith, calls));
   appends = subst (λ (append : Bool).
       appends_left new + (if append then 1 else 0) ≤ appends_left old)
       (sym (no-append old whole)) (omega (arith, few));
+  goes_on = goes old new holds;
 }
 
 -- one with an append leaves an append fewer
 pub append-fewer : (old new : State) → 0 < pieces_in old → calls_left new ≤ calls_left old →
-    appends_left new < appends_left old → LeavesFewer old new
-append-fewer old new some calls few = record {
+    appends_left new < appends_left old → HoldsText new (staged_then old) → LeavesFewer old new
+append-fewer old new some calls few holds = record {
   calls = subst (λ (append : Bool). calls_left new + (if append then 0 else 1) ≤ calls_left old)
       (sym (one-append old some)) (omega (arith, calls));
   appends = subst (λ (append : Bool).
       appends_left new + (if append then 1 else 0) ≤ appends_left old)
       (sym (one-append old some)) (omega (arith, few));
+  goes_on = goes old new holds;
 }
 
 -- ---- To the answer
@@ -206,7 +201,7 @@ pub answers-fewer : (tool : Tool) (cause : Cause) (state : State) → AnswersWit
 answers-fewer tool cause state told old more whole =
     let none = answers-appends tool cause state told in
     other-fewer old state whole (less-calls tool cause state told (calls_left old) more)
-    (omega (arith, none))
+    (omega (arith, none)) (answers-hold tool cause state told (staged_then old))
 
 -- and where it was to append a piece
 pub answers-append : (tool : Tool) (cause : Cause) (state : State) → AnswersWith tool cause state →
@@ -216,6 +211,7 @@ answers-append tool cause state told old more some left =
     let one = answers-calls tool cause state told in
     let none = answers-appends tool cause state told in
     append-fewer old state some (omega (arith, one, more)) (omega (arith, none, left))
+    (answers-hold tool cause state told (staged_then old))
 
 -- also where the second listing was still to come
 pub answers-near : (tool : Tool) (cause : Cause) (old state : State) →
@@ -224,6 +220,7 @@ answers-near tool cause old state told more = record {
   fewer = less-calls tool cause state told (calls_left old) more;
   appends = (let none = answers-appends tool cause state told in omega (arith, none));
   next = inr (let one = answers-calls tool cause state told in omega (arith, one));
+  goes_on = answers-on tool cause old state told;
 }
 
 -- or next
@@ -238,6 +235,7 @@ answers-listed now journal runner claimed tool cause state told = record {
   shown = inl refl;
   fewer = (let one = answers-calls tool cause state told in omega (arith, one));
   appends = (let none = answers-appends tool cause state told in omega (arith, none));
+  goes_on = answers-on tool cause (Confirming claimed) state told;
 }
   where
     told-none : (past : Option Past) →
@@ -286,89 +284,6 @@ leaves-calls tool keeper cause (Unlocking kept answer) told =
     let same = ap leaving_calls told.0 in omega (arith, same)
 leaves-calls tool keeper cause state told = absurd told
 
--- ---- To the lock
-
--- once the greatest lock is judged
-judged-calls : (old : State) (judged : Lister) (report : Bool) →
-    calls_left (Claiming judged) < calls_left old →
-    appends_left (Claiming judged) ≤ appends_left old →
-    Nears old (if report then Watching judged else Claiming judged)
-judged-calls old judged true fewer few = record {
-  fewer = omega (arith, fewer);
-  appends = omega arith;
-  next = inr (omega arith);
-}
-judged-calls old judged false fewer few = record { fewer = fewer; appends = few; next = inl tt }
-
--- after the first listing
-looked-calls : (request : Request) (looking : Token) (seen : Lister) (is_none : Bool) →
-    Nears (Looking looking) (if is_none then after_judging request seen else Reading seen)
-looked-calls request looking seen true =
-    judged-calls (Looking looking) seen (is_report request) (omega arith) (omega arith)
-looked-calls request looking seen false =
-    record { fewer = omega arith; appends = omega arith; next = inl tt }
-
--- the state behind the first listing is nearer to the end
-pub look-calls : (request : Request) (looking : Token) (seen : Lister) →
-    Nears (Looking looking) (after_look request seen)
-look-calls request looking seen = looked-calls request looking seen _
-
--- after the read of the greatest lock
-pub read-calls : (request : Request) (seen : Lister) (told : Told) →
-    Nears (Reading seen) (after_read request told)
-read-calls request seen (Judged judged) =
-    judged-calls (Reading seen) judged (is_report request) (omega arith) (omega arith)
-read-calls request seen (Ask asking) =
-    record { fewer = omega arith; appends = omega arith; next = inl tt }
-
--- after the verdict, and after the create
-pub ask-calls : (request : Request) (asking : Asker) (judged : Lister) →
-    Nears (Asking asking) (after_judging request judged)
-ask-calls request asking judged =
-    judged-calls (Asking asking) judged (is_report request) (omega arith) (omega arith)
-
--- to confirm a lock is nearer to the end than to claim it
-pub claim-calls : (judged : Lister) (claimed : Maker) → Nears (Claiming judged) (Confirming claimed)
-claim-calls judged claimed =
-    record { fewer = omega arith; appends = omega arith; next = inl tt }
-
--- after the second listing
-pub listing-calls : (told : Option Past) (journal : List Entry) (runner : Runner) (claimed : Maker)
-    (answer : Result (List ℕ) FolderFault) (confirmed : Confirmed) →
-    Confirms claimed answer (Ok confirmed) → ((numbers : List ℕ) → answer ≡ Ok numbers →
-    IfSome told (λ past. Met runner.token lists numbers (HasMade claimed) past.history)) →
-    (older : List Entry) → journal ≡ makes lists (reply_of lists answer) ∷ older →
-    ShowsFew confirmed → Listed told journal runner (Confirming claimed) (after_listing confirmed)
-listing-calls told journal runner claimed (Ok numbers) (Keeper keeper) shown got older noted few =
-    record {
-      lower = length keeper.lower;
-      most = few;
-      counts = told-as told (λ past met. inr (record {
-        number = claimed.number;
-        numbers = numbers;
-        listed = met;
-        kept = shown.0;
-        are_lower = ap (λ (one : Kept). length one.lower) shown.1;
-      })) (got numbers refl);
-      shown = inr (ap (λ (one : Kept). length one.lower) shown.1
-          ∙ ap (λ (number : ℕ). length (filter (λ other. nat_lt other number) numbers))
-          (sym shown.0)
-          ∙ sym (ap last_lower noted));
-      fewer = omega arith;
-      appends = omega arith;
-    }
-listing-calls told journal runner claimed (Ok numbers) (Loser loser) shown got older noted few =
-    record {
-      lower = 0;
-      most = omega arith;
-      counts = told-as told (λ past met. inl refl) (got numbers refl);
-      shown = inl refl;
-      fewer = omega arith;
-      appends = omega arith;
-    }
-listing-calls told journal runner claimed (Err fault) confirmed shown got older noted few =
-    absurd shown
-
 -- ---- A recovery
 
 -- an intent that reads lists six tables at most
@@ -393,7 +308,7 @@ pub intent-calls : (keeper : Kept) (answer : Result Found FolderFault) (seen : I
 intent-calls keeper (Ok found_absent) (Clean kept) shown =
     let same = ap loading_calls shown in
     other-fewer (ReadingIntent keeper) (after_intent (Clean kept)) refl (omega (arith, same))
-    (omega arith)
+    (omega arith) refl
 intent-calls keeper (Ok (found_bytes bytes)) (ListedTables recovering) shown =
     let few = few-listed bytes shown.intent shown.reads_it in
     let left = ap (λ (one : Recoverer). length one.left) shown.is in
@@ -401,7 +316,7 @@ intent-calls keeper (Ok (found_bytes bytes)) (ListedTables recovering) shown =
     let appends = listed-appends bytes shown.intent shown.reads_it in
     let listed = ap (λ (one : Recoverer). texts_appends 0 (new_texts one.left)) shown.is in
     other-fewer (ReadingIntent keeper) (Recovering recovering) refl
-    (omega (arith, few, left, same)) (omega (arith, appends, listed))
+    (omega (arith, few, left, same)) (omega (arith, appends, listed)) refl
 intent-calls keeper answer seen shown = absurd shown
 
 -- a state that leaves has no append left
@@ -422,11 +337,13 @@ refused-calls tool keeper (Ok (found_bytes bytes)) (Damaged part kept) state end
     let same = ap leaving_calls shown.1 in
     let none = leaves-appends tool kept (IntentDamaged part) state ends in
     other-fewer (ReadingIntent keeper) state refl (omega (arith, few, same)) (omega (arith, none))
+    (leaves-hold tool kept (IntentDamaged part) state ends)
 refused-calls tool keeper (Ok found_too_large) (IntentIsLarge kept) state ends shown =
     let few = leaves-calls tool kept (IsTooLarge (File Intent)) state ends in
     let same = ap leaving_calls shown in
     let none = leaves-appends tool kept (IsTooLarge (File Intent)) state ends in
     other-fewer (ReadingIntent keeper) state refl (omega (arith, few, same)) (omega (arith, none))
+    (leaves-hold tool kept (IsTooLarge (File Intent)) state ends)
 refused-calls tool keeper answer end state ends shown = absurd shown
 
 -- the first piece of a table leads to its other pieces and its move
@@ -438,14 +355,16 @@ staged-calls recovering moving is =
     let begun = begun-same (new_texts recovering.left) in
     other-fewer (Recovering recovering) (Moving moving) refl (omega (arith, same))
     (omega (arith, appends, begun))
+    (ap (λ (one : Mover). table_text (λ new. Staged new.table) (λ new. new.bytes) one.staged
+    (slice_get one.left 0)) is)
 
 -- the removal of the intent leads to the reads
 pub removed-calls : (recovering : Recoverer) (keeper : Kept) → keeper ≡ recovering.keeper →
-    LeavesFewer (Recovering recovering) (Loading (start_of keeper))
-removed-calls recovering keeper is =
+    length recovering.left ≡ 0 → LeavesFewer (Recovering recovering) (Loading (start_of keeper))
+removed-calls recovering keeper is none =
     let same = ap loading_calls is in
     other-fewer (Recovering recovering) (Loading (start_of keeper)) refl (omega (arith, same))
-    (omega arith)
+    (omega arith) (recovered-none recovering.left none)
 
 -- a list without its first is shorter by one
 one-fewer : {A : Type 0} (items : List A) → 0 < length items →
@@ -462,6 +381,8 @@ added-calls moving next is some =
     let fewer = listed-fewer moving.staged moving.left begun some in
     append-fewer (Moving moving) (Moving next) some (omega (arith, same))
     (omega (arith, appends, fewer))
+    (ap (λ (one : Mover). table_text (λ new. Staged new.table) (λ new. new.bytes) one.staged
+    (slice_get one.left 0)) is ∙ moved-more moving.staged (slice_get moving.left 0) some)
 
 -- a table with a piece left has an append left
 pub moving-appends : (moving : Mover) → 0 < moving_pieces moving → 0 < appends_left (Moving moving)
@@ -480,7 +401,7 @@ moved-calls moving recovering is some whole =
     let appends = ap (λ (one : Recoverer). appends_left (Recovering one)) is in
     let most = listed-most moving.staged moving.left some in
     other-fewer (Moving moving) (Recovering recovering) whole (omega (arith, same, fewer))
-    (omega (arith, appends, most))
+    (omega (arith, appends, most)) (moved-whole moving.staged (slice_get moving.left 0) whole)
 
 -- ---- The way out
 
@@ -491,4 +412,4 @@ cleaned-calls keeper kept answer is some =
     let same = ap (λ (one : Kept). length one.lower) is in
     let fewer = one-fewer keeper.lower some in
     other-fewer (Unlocking keeper answer) (Unlocking kept answer) refl
-    (omega (arith, same, fewer)) (omega arith)
+    (omega (arith, same, fewer)) (omega arith) (freed-none keeper.lower some)

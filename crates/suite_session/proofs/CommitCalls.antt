@@ -14,6 +14,7 @@ use Rattle.acct_text.specs.Limits.{table_limit}
 use Rattle.acct_text.specs.Tables.{all_tables}
 use Rattle.acct_outside.specs.declared.FolderFault.{FolderFault}
 use Rattle.acct_outside.specs.Calls.{Found}
+use Rattle.acct_outside.specs.declared.Name.TheVariants.{BackupStage, Staged}
 use Rattle.account_model.specs.declared.tool.Tool.{Tool}
 use Rattle.acct_text.specs.Bytes.{Bytes}
 use Rattle.acct_text.specs.ChangedTables.{changed_among, with_new_table}
@@ -26,7 +27,9 @@ use Rattle.commit_steps.specs.declared.Loading.TheVariants.{More, Done}
 use Rattle.commit_steps.specs.declared.LoadEnd.{LoadEnd}
 use Rattle.commit_steps.specs.declared.LoadEnd.TheVariants.{Fault, TooLarge, NoTable}
 use Rattle.commit_steps.specs.Outcomes.{Loads}
+use Rattle.commit_steps.proofs.BackupLemmas.{old-pieces}
 use Rattle.commit_steps.proofs.InstallLemmas.{pieces-are}
+use Rattle.commit_steps.proofs.NextLemmas.{no-table}
 use Rattle.commit_steps.specs.States.{AreSound, Change, Inputs, Reader, Stager, Walker, append_intent, append_on, backup_pieces, begun_of, changed, install_pieces, intended, intent_left, new_files, next_table, old_bytes, old_files, step_on, steps_left, table_after, walk_of}
 use Rattle.suite_answers.specs.declared.cause.Cause.TheVariants.{NoTable as HasNoTable, TooLarge as IsTooLarge}
 use Rattle.suite_answers.specs.declared.cause.Which.TheVariants.{File}
@@ -37,11 +40,13 @@ use Rattle.suite_session.specs.Runner.{Runner}
 use Rattle.suite_session.specs.Counts.{LeavesFewer}
 use Rattle.suite_session.specs.Left.{appends_left, calls_left, change_appends, change_calls, commit_calls, install_appends, leaving_calls, new_texts, old_texts, reads_left, table_calls, texts_appends}
 use Rattle.suite_session.specs.Loading.{DecidesTo, EndsAt, LoadsTo}
+use Rattle.suite_session.specs.Texts.{HoldsText, begun_text, stager_text, text_in}
 use Rattle.suite_session.proofs.AppendsLemmas.{added-steps, begun-left, tables-most, walk-appends, walked-appends}
 use Rattle.suite_session.proofs.LoadingTurns.{change-is}
 use Rattle.suite_session.proofs.WalkingLemmas.{changed-most, fewer-steps, step-change}
 use Rattle.suite_session.proofs.LoadingLemmas.{done-files, done-keeper, large-shown, missing-shown, more-shown}
 use Rattle.suite_session.proofs.CallsLemmas.{other-fewer, append-fewer, answers-fewer, leaves-calls, leaves-appends}
+use Rattle.suite_session.proofs.TextsLemmas.{backed_then, installed_then, intent-more, intent-moved, leaves-hold, walked-more, walked-step}
 
 -- ---- The reads
 
@@ -146,6 +151,15 @@ decided-appends runner inputs small (BackingUp walker answer) decided =
 decided-appends runner inputs small (Unlocking keeper answer) decided = omega arith
 decided-appends runner inputs small state decided = absurd decided
 
+-- none is staged yet
+decided-hold : (runner : Runner) (inputs : Inputs) (state : State) →
+    DecidesTo runner inputs state → HoldsText state None
+decided-hold runner inputs (Answering answer) decided = tt
+decided-hold runner inputs (BackingUp walker answer) decided =
+    ap (λ (one : Walker). text_in (BackingUp one answer)) decided.0
+decided-hold runner inputs (Unlocking keeper answer) decided = refl
+decided-hold runner inputs state decided = absurd decided
+
 -- the inputs that are loaded are sound where what was read before the last was
 loaded-small : (reader : Reader) (inputs : Inputs) (answer : Result Found FolderFault) →
     AreSound reader.next reader.files → Loads reader answer (Ok (Done inputs)) → (table : Tab)
@@ -169,7 +183,10 @@ loads-calls runner reader (More more) state answer sound leads shown =
     let was = ap reads_left next.1 in
     let fewer = reads-fewer next.0 in
     other-fewer (Loading reader) state refl (omega (arith, same, keeper, left, was, fewer))
-    (omega (arith, appends))
+    (omega (arith, appends)) (loads-hold state leads)
+  where
+    loads-hold : (one : State) → one ≡ Loading more → HoldsText one None
+    loads-hold one is = subst (λ (same : State). HoldsText same None) (sym is) refl
 loads-calls runner reader (Done inputs) state answer sound leads shown =
     let few = decided-calls runner inputs state leads in
     let keeper = ap change_calls (done-keeper reader inputs answer shown) in
@@ -177,7 +194,7 @@ loads-calls runner reader (Done inputs) state answer sound leads shown =
     let appends = decided-appends runner inputs (loaded-small reader inputs answer sound shown)
     state leads in
     other-fewer (Loading reader) state refl (omega (arith, few, keeper, some))
-    (omega (arith, appends))
+    (omega (arith, appends)) (decided-hold runner inputs state leads)
 
 -- and one that leads no further
 pub ended-calls : (tool : Tool) (reader : Reader) (answer : Result Found FolderFault)
@@ -192,14 +209,14 @@ ended-calls tool reader answer (TooLarge name kept) state ends shown =
     let some = reads-some reader.next in
     let none = leaves-appends tool kept (IsTooLarge (File name)) state ends in
     other-fewer (Loading reader) state refl (omega (arith, few, keeper, some))
-    (omega (arith, none))
+    (omega (arith, none)) (leaves-hold tool kept (IsTooLarge (File name)) state ends)
 ended-calls tool reader answer (NoTable table kept) state ends shown =
     let few = leaves-calls tool kept (HasNoTable table) state ends in
     let keeper = ap leaving_calls (missing-shown reader table kept answer shown).1 in
     let some = reads-some reader.next in
     let none = leaves-appends tool kept (HasNoTable table) state ends in
     other-fewer (Loading reader) state refl (omega (arith, few, keeper, some))
-    (omega (arith, none))
+    (omega (arith, none)) (leaves-hold tool kept (HasNoTable table) state ends)
 
 -- ---- The commit
 
@@ -237,6 +254,12 @@ backed-calls walker next answer table is_next is some whole =
     (old_texts walker.change (drop (step_on walker).place (changed one)))) (step-change walker) in
     other-fewer (BackingUp walker answer) (BackingUp next answer) whole
     (omega (arith, fewer, same)) (omega (arith, left, less, steps))
+    (ap (λ (one : Walker). text_in (BackingUp one answer)) is
+    ∙ ap (λ (one : Change). begun_text (λ new. BackupStage) (λ new. old_bytes one new.table)
+    (step_on walker).staged (next_table (step_on walker))) (step-change walker)
+    ∙ walked-step (λ new. BackupStage) (λ new. old_bytes walker.change new.table) walker table
+    is_next (sym (old-pieces walker table is_next) ∙ whole)
+    ∙ sym (ap (backed_then walker) is_next))
 
 -- an append for a backup
 pub backed-more : (walker next : Walker) (answer : FinalAnswer) (table : NewTable) →
@@ -255,6 +278,10 @@ backed-more walker next answer table is_next is some =
     let steps = added-steps walker begun in
     append-fewer (BackingUp walker answer) (BackingUp next answer) some
     (omega (arith, calls, steps)) (omega (arith, appends, less))
+    (ap (λ (one : Walker). text_in (BackingUp one answer)) is
+    ∙ walked-more (λ new. BackupStage) (λ new. old_bytes walker.change new.table) walker table
+    is_next piece
+    ∙ sym (ap (backed_then walker) is_next))
 
 -- a backup with a piece left has an append left
 pub backing-appends : (walker : Walker) (answer : FinalAnswer) → 0 < backup_pieces walker →
@@ -283,6 +310,10 @@ installed-calls walker next answer table is_next is some whole =
     let less = walked-appends (λ new. new.bytes) walker table is_next in
     other-fewer (Installing walker answer) (Installing next answer) whole
     (omega (arith, fewer, same)) (omega (arith, left, less))
+    (ap (λ (one : Walker). text_in (Installing one answer)) is
+    ∙ walked-step (λ new. Staged new.table) (λ new. new.bytes) walker table is_next
+    (sym (pieces-are walker table is_next) ∙ whole)
+    ∙ sym (ap (installed_then walker.staged) is_next))
 
 -- an append for it
 pub installed-more : (walker next : Walker) (answer : FinalAnswer) (table : NewTable) →
@@ -297,6 +328,9 @@ installed-more walker next answer table is_next is some =
     let steps = added-steps walker begun in
     append-fewer (Installing walker answer) (Installing next answer) some
     (omega (arith, calls, steps)) (omega (arith, appends, less))
+    (ap (λ (one : Walker). text_in (Installing one answer)) is
+    ∙ walked-more (λ new. Staged new.table) (λ new. new.bytes) walker table is_next piece
+    ∙ sym (ap (installed_then walker.staged) is_next))
 
 -- an installation with a piece left has an append left
 pub installing-appends : (walker : Walker) (answer : FinalAnswer) → 0 < install_pieces walker →
@@ -321,6 +355,7 @@ intended-calls walker stager answer is none whole =
     let appends = ap (λ (one : Stager). appends_left (Committing one answer)) is in
     other-fewer (BackingUp walker answer) (Committing stager answer) whole
     (omega (arith, same)) (omega (arith, appends))
+    (ap stager_text is ∙ sym (ap (backed_then walker) (no-table walker none)))
 
 -- a further one
 pub staged-more : (stager next : Stager) (answer : FinalAnswer) → next ≡ append_intent stager →
@@ -330,6 +365,7 @@ staged-more stager next answer is some =
     let appends = ap (λ (one : Stager). appends_left (Committing one answer)) is in
     append-fewer (Committing stager answer) (Committing next answer) some
     (omega (arith, calls)) (omega (arith, appends, some))
+    (ap stager_text is ∙ intent-more stager some)
 
 -- an intent with a piece left has an append left
 pub committing-appends : (stager : Stager) (answer : FinalAnswer) → 0 < intent_left stager →
@@ -347,12 +383,13 @@ committed-calls stager walker answer is whole =
     let appends = ap (λ (one : Walker). appends_left (Installing one answer)) is in
     other-fewer (Committing stager answer) (Installing walker answer) whole
     (omega (arith, few, steps, same)) (omega (arith, appends))
+    (ap (λ (one : Walker). text_in (Installing one answer)) is ∙ intent-moved stager whole)
 
 -- the intent is removed
 pub cleared-calls : (walker : Walker) (keeper : Kept) (answer : FinalAnswer) →
-    keeper ≡ walker.change.inputs.keeper → install_pieces walker ≡ 0 →
+    keeper ≡ walker.change.inputs.keeper → install_pieces walker ≡ 0 → steps_left walker ≡ 0 →
     LeavesFewer (Installing walker answer) (Unlocking keeper answer)
-cleared-calls walker keeper answer is whole =
+cleared-calls walker keeper answer is whole none =
     let same = ap leaving_calls is in
     other-fewer (Installing walker answer) (Unlocking keeper answer) whole (omega (arith, same))
-    (omega arith)
+    (omega arith) (sym (ap (installed_then walker.staged) (no-table walker none)))

@@ -8,6 +8,7 @@ mod BelongingTurns
 pub mod BelongsLemmas
 mod BoundLemmas
 mod CallsLemmas
+mod LockCalls
 mod CauseLemmas
 mod CommitCalls
 mod CommittingTurns
@@ -40,5 +41,7 @@ mod SessionTurns
 pub mod StagingLemmas
 pub mod StreamLemmas
 pub mod TellingLemmas
+mod TextsLemmas
+pub mod TextCalls
 mod TurnLemmas
 mod UnlockingTurns

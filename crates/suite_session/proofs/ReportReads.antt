@@ -197,6 +197,7 @@ watch-calls watcher wanted (Ok found) reading shown =
     ap (λ (one : Gatherer). length one.left) shown.1 in
     let few : length (filter (awaits gathered) inputs) ≤ 7 = few-behind (awaits gathered) inputs in
     other-fewer (Watching watcher) (Gathering reading) refl (omega (arith, same, few)) (omega arith)
+    refl
 watch-calls watcher wanted (Err fault) reading shown = absurd shown
 
 -- a read leaves one fewer
@@ -206,6 +207,7 @@ pub gather-calls : (reading : Gatherer) (answer : Result Found FolderFault) (mor
 gather-calls reading (Ok found) more shown some =
     let rest = ap (λ (one : Gatherer). length one.left) shown ∙ length-drop 1 reading.left in
     other-fewer (Gathering reading) (Gathering more) refl (omega (arith, rest, some)) (omega arith)
+    refl
 gather-calls reading (Err fault) more shown some = absurd shown
 
 -- while any name is left it reads that

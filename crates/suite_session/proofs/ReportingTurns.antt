@@ -315,7 +315,7 @@ module _ (runner : Runner) where
           AnswersFiles runner report.gathered problem one → LeavesFewer (Gathering reading) one
       to-files (Some problem) one told = to-answer (cause_of_problem problem) one told
       to-files None (Answering answer) told =
-          other-fewer (Gathering reading) (Answering answer) refl (omega arith) (omega arith)
+          other-fewer (Gathering reading) (Answering answer) refl (omega arith) (omega arith) tt
       to-files None one told = absurd told
 
       by-intent-calls : (intent : IntentFound) (one : State) →

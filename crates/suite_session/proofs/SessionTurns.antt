@@ -69,7 +69,7 @@ came-on admits runner old new (Some was) (Some past) journal counts at less free
     record {
       named = came.named;
       remembers = stays.1 came.remembers;
-      called = called-then admits runner was past own grew.1 new old (FindsNoMemory new) journal
+      called = called-then admits runner was past own grew.1 new old journal
           one.1 counts came.called;
       looked = looked-then runner.token old new was past (FindsNoMemory new) one.1 less came.looked;
       backed = backed-then admits runner was past own grew.1 came.backed;
@@ -218,7 +218,7 @@ module _ (before now : Moment) (runner : Runner) (status : ℕ) where
               (ap (λ (one : Standing). one.listing) step.next_standing) knows (left goes_on);
           moved = λ goes_on. subst HasMovedAll (sym step.next_standing)
               (staged-last status (standing runner.token was.history) (came.staged goes_on));
-          within = called-last before.admits runner was past may.own grew.1 answer status ⊥
+          within = called-last before.admits runner was past may.own grew.1 answer status
               (inl (_, step.next_events)) came.called;
           looked = looked-last runner.token (Answering answer) status was past step.next_events
               came.looked;

@@ -1,7 +1,8 @@
--- How many events a session makes: at most most_calls, and one for each lower lock that its second
--- listing showed; and appends, one for each piece of a text behind its first, and most_appends at most.
-use Rattle.std.specs.Prelude.{◌⊎◌, ◌+◌, ◌≤◌, ℕ, filter, length, not}
+-- Which events a session makes: at most most_calls, and one for each lower lock that its second listing
+-- showed; and appends, one for each piece of a text behind its first.
+use Rattle.std.specs.Prelude.{◌⊎◌, ◌+◌, ◌≤◌, ℕ, List, filter, length, map, not}
 use Rattle.acct_outside.specs.Tokens.{Token}
+use Rattle.acct_outside.specs.Calls.{Call}
 use Rattle.acct_outside.specs.History.{History, own_events}
 use Rattle.acct_outside.specs.Others.{Admission}
 use Rattle.suite_session.specs.declared.state.State.{State}
@@ -10,6 +11,7 @@ use Rattle.suite_session.specs.Counts.{CountsLower, IsToList}
 use Rattle.suite_session.specs.Grows.{Grows}
 use Rattle.suite_session.specs.Left.{appends_left, calls_left, is_append, most_appends, most_calls, most_lower, watching_calls}
 use Rattle.suite_session.specs.Reports.{ChangesNothing, report_calls}
+use Rattle.suite_session.specs.Texts.{LeadTo, StageTexts}
 
 -- how many of the events are appends
 abbrev pub appends_in : History → ℕ
@@ -19,13 +21,18 @@ appends_in events = length (filter (λ event. is_append event.call) events)
 abbrev pub others_in : History → ℕ
 others_in events = length (filter (λ event. not (is_append event.call)) events)
 
+-- their calls
+abbrev pub calls_of : History → List Call
+calls_of events = map (λ event. event.call) events
+
 -- the session's events but appends are at most most_calls, and one for each lower lock that its second
--- listing showed; its appends are at most most_appends
+-- listing showed; they stage texts in their pieces, with most_appends at most
 pub record IsWithin (token : Token) (history : History) : Type 0 where
   pub lower : ℕ
   pub counts : CountsLower token history lower
   pub within : others_in (own_events token history) ≤ most_calls + lower
   pub appended : appends_in (own_events token history) ≤ most_appends
+  pub stage : StageTexts (calls_of (own_events token history))
 
 -- the new events of the history were admitted from others or are the session's, and these are within
 -- the bound
@@ -34,14 +41,16 @@ pub record IsBounded (admits : Admission) (token : Token) (old new : History) : 
   pub grows : Grows admits token old made new
   pub within : IsWithin token new
 
--- On its way a session has made so many calls that with those that are left they are within the bound.
--- Before its second listing as many lower locks are counted as one can show.
+-- On its way a session has made so many calls that with those that are left they are within the bound;
+-- they lead to what it has staged. Before its second listing as many lower locks are counted as one can
+-- show.
 pub record HasCalled (token : Token) (state : State) (history : History) : Type 0 where
   pub lower : ℕ
   pub most : lower ≤ most_lower
   pub counts : IsToList state ⊎ CountsLower token history lower
   pub within : others_in (own_events token history) + calls_left state ≤ most_calls + lower
   pub appended : appends_in (own_events token history) + appends_left state ≤ most_appends
+  pub leads : LeadTo (calls_of (own_events token history)) state
 
 -- The events that a report has left at most: before it has judged the greatest lock it may have to read
 -- that, and to ask for its holder. In other states no report stands.

@@ -1,5 +1,6 @@
 -- What each turn leaves of the calls that a session makes at most: an append fewer where it makes one, and
--- else another call fewer, with as many more as the second listing shows lower locks.
+-- else another call fewer, with as many more as the second listing shows lower locks. Each goes on with the
+-- text that is staged.
 use Rattle.std.specs.Prelude.{◌≡◌, ◌⊎◌, ◌∷◌, ⊤, ◌+◌, ◌<◌, ◌≤◌, ℕ, if◌then◌else◌, List, nat_lt, filter, length, Option, IfSome}
 use Rattle.acct_outside.specs.Tokens.{Token}
 use Rattle.acct_outside.specs.Folder.{greatest}
@@ -14,6 +15,7 @@ use Rattle.suite_session.specs.Runner.{Runner}
 use Rattle.suite_session.specs.Causes.{Met}
 use Rattle.suite_session.specs.Left.{appends_left, calls_left, is_append, most_lower, watching_calls}
 use Rattle.suite_session.specs.NextCall.{state_call}
+use Rattle.suite_session.specs.Texts.{GoesOn}
 
 -- the session listed the locks once its create was done, its own was the greatest, and there were so
 -- many lower ones
@@ -58,6 +60,7 @@ others_by call = if is_append call then 0 else 1
 pub record LeavesFewer (old new : State) : Type 0 where
   pub calls : calls_left new + others_by (state_call old) ≤ calls_left old
   pub appends : appends_left new + appends_by (state_call old) ≤ appends_left old
+  pub goes_on : GoesOn old new
 
 -- before that listing a turn leaves a call fewer; it leads on towards the listing, or no more calls are
 -- left than a report has that has judged the greatest lock
@@ -65,6 +68,7 @@ pub record Nears (old new : State) : Type 0 where
   pub fewer : calls_left new < calls_left old
   pub appends : appends_left new ≤ appends_left old
   pub next : IsToList new ⊎ (calls_left new ≤ watching_calls)
+  pub goes_on : GoesOn old new
 
 -- the listing, which is the last call in this journal, leaves a call fewer, with the lower locks that it
 -- shows, and no others
@@ -76,6 +80,7 @@ pub record Listed (told : Option Past) (journal : List Entry) (runner : Runner) 
   pub shown : (lower ≡ 0) ⊎ (lower ≡ last_lower journal)
   pub fewer : calls_left new + most_lower < calls_left old + lower
   pub appends : appends_left new ≤ appends_left old
+  pub goes_on : GoesOn old new
 
 -- what a turn leaves of the calls: one fewer, after the second listing with the lower locks that it shows.
 -- The calls up to that listing are no appends.

@@ -10,6 +10,7 @@ pub mod Telling
 pub mod Backing
 pub mod Grows
 pub mod NextCall
+pub mod Texts
 pub mod Looks
 pub mod Staging
 pub mod Stands

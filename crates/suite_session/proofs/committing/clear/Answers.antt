@@ -50,7 +50,7 @@ returns-in-Ok g c = record {
       cleared-calls c.args.installing c.forget.result c.args.answer
       (c.forget.ensures ∙ (c.release.ensures
       ∙ leads-on c.args.installing.change.inputs.keeper after_commit c.in-Ok.ensures.call.answer
-      c.in-Ok.cleared c.in-Ok.ensures.call.shown)) c.requires.whole;
+      c.in-Ok.cleared c.in-Ok.ensures.call.shown)) c.requires.whole c.requires.left;
 }
 
 pub returns-in-Err : goal.returns-in-Err

@@ -11,7 +11,8 @@ use Rattle.suite_session.proofs.LockingTurns.{judged-stands, judged-quiet}
 use Rattle.suite_session.proofs.MeetingLemmas.{ask-on, ask-ends}
 use Rattle.suite_session.specs.Locking.{cause_of_end}
 use Rattle.acct_outside.specs.declared.CommitStage.TheVariants.{Before}
-use Rattle.suite_session.proofs.CallsLemmas.{answers-near, ask-calls}
+use Rattle.suite_session.proofs.CallsLemmas.{answers-near}
+use Rattle.suite_session.proofs.LockCalls.{ask-calls}
 use Rattle.suite_session.proofs.locking.ask.Goals as goal
 
 pub returns-in-Ok : goal.returns-in-Ok

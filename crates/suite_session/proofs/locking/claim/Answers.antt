@@ -10,7 +10,8 @@ use Rattle.suite_session.proofs.LockingLemmas.{end-plain, end-stage, end-failed,
 use Rattle.suite_session.proofs.MeetingLemmas.{claim-on, claim-ends}
 use Rattle.suite_session.specs.Locking.{cause_of_end}
 use Rattle.acct_outside.specs.declared.CommitStage.TheVariants.{Before}
-use Rattle.suite_session.proofs.CallsLemmas.{answers-near, claim-calls}
+use Rattle.suite_session.proofs.CallsLemmas.{answers-near}
+use Rattle.suite_session.proofs.LockCalls.{claim-calls}
 use Rattle.suite_session.proofs.locking.claim.Goals as goal
 
 pub returns-in-Ok : goal.returns-in-Ok

@@ -11,7 +11,8 @@ use Rattle.suite_session.proofs.MeetingLemmas.{confirm-on, confirm-ends}
 use Rattle.suite_session.specs.Locking.{cause_of_end}
 use Rattle.acct_outside.specs.declared.CommitStage.TheVariants.{Before}
 use Rattle.suite_session.specs.declared.state.State.TheVariants.{Confirming}
-use Rattle.suite_session.proofs.CallsLemmas.{answers-listed, listing-calls}
+use Rattle.suite_session.proofs.CallsLemmas.{answers-listed}
+use Rattle.suite_session.proofs.LockCalls.{listing-calls}
 use Rattle.suite_session.proofs.locking.confirm.Goals as goal
 
 pub returns-in-Ok : goal.returns-in-Ok

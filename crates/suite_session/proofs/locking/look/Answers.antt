@@ -11,7 +11,8 @@ use Rattle.suite_session.proofs.MeetingLemmas.{look-on, look-ends}
 use Rattle.suite_session.specs.Locking.{cause_of_end}
 use Rattle.acct_outside.specs.declared.CommitStage.TheVariants.{Before}
 use Rattle.suite_session.specs.declared.state.State.TheVariants.{Looking}
-use Rattle.suite_session.proofs.CallsLemmas.{answers-near, look-calls}
+use Rattle.suite_session.proofs.CallsLemmas.{answers-near}
+use Rattle.suite_session.proofs.LockCalls.{look-calls}
 use Rattle.suite_session.proofs.locking.look.Goals as goal
 
 pub returns-in-Ok : goal.returns-in-Ok

@@ -12,7 +12,8 @@ use Rattle.suite_session.proofs.MeetingLemmas.{read-on, read-ends}
 use Rattle.suite_session.specs.Locking.{cause_of_end}
 use Rattle.acct_outside.specs.declared.CommitStage.TheVariants.{Before}
 use Rattle.suite_session.specs.declared.state.State.TheVariants.{Reading}
-use Rattle.suite_session.proofs.CallsLemmas.{answers-near, read-calls}
+use Rattle.suite_session.proofs.CallsLemmas.{answers-near}
+use Rattle.suite_session.proofs.LockCalls.{read-calls}
 use Rattle.suite_session.proofs.locking.read.Goals as goal
 
 pub returns-in-Ok : goal.returns-in-Ok

@@ -60,7 +60,7 @@ returns-in-Ok g c = record {
   counts =
       rw c.start.ensures (removed-calls c.args.recovering c.in-Ok.keeper
       (leads-on c.args.recovering.keeper before_commit _ c.in-Ok.keeper
-      c.in-Ok.ensures.call.shown));
+      c.in-Ok.ensures.call.shown) c.requires.none);
 }
 
 pub returns-in-Err : goal.returns-in-Err

@@ -24,7 +24,7 @@ returns-in-Ok g c = record {
       frees before now c.args.runner.now c.args.answer c.args.freeing c.requires
       _ c.in-Ok.ensures.call c.in-Ok.ensures.next
       c.move_free.ensures.left c.move_free.ensures.lawful c.move_free.ensures.faults.never_falls;
-  counts = other-fewer _ _ refl (omega arith) (omega arith);
+  counts = other-fewer _ _ refl (omega arith) (omega arith) tt;
 }
 
 pub returns-in-Err : goal.returns-in-Err

@@ -9,6 +9,7 @@ use Rattle.suite_session.proofs.UnlockingTurns.{stages, out-follows}
 use Rattle.suite_session.proofs.MeetingLemmas.{locks-ended}
 use Rattle.suite_answers.specs.Reasons.{stage_of}
 use Rattle.suite_session.specs.declared.state.State.TheVariants.{Unlocking}
+use Rattle.suite_session.proofs.TextsLemmas.{freed-text}
 use Rattle.suite_session.proofs.CallsLemmas.{answers-fewer, unlocking-more, unlocking-some, other-fewer}
 use Rattle.suite_session.proofs.unlocking.stage_free.Goals as goal
 
@@ -28,7 +29,8 @@ returns-in-Ok g c = record {
       c.in-Ok.ensures.next
       c.stage_free.ensures.left c.stage_free.ensures.lawful c.stage_free.ensures.faults.never_falls;
   counts =
-      other-fewer _ _ refl (unlocking-more c.args.keeper c.args.answer) (omega arith);
+      other-fewer _ _ refl (unlocking-more c.args.keeper c.args.answer) (omega arith)
+      (freed-text c.args.keeper.lower c.requires.left);
 }
 
 pub returns-in-Err : goal.returns-in-Err
