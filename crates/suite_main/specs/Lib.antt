@@ -1,4 +1,5 @@
 pub mod Help
 pub mod HelpTexts
 pub mod Input
+pub mod OpenLine
 pub mod Program

@@ -1,19 +1,21 @@
 //! The program `accounts`: the suite on the folder, the streams and the clock of the system.
 //!
 //! What is decided is decided below, in `suite_core` and for a rehearsal in `rehearsal`, and what is
-//! asked of the system is asked in `real_folder`. Where the system refused something, a second line on
-//! the error stream says why.
+//! asked of the system is asked in `real_folder`. Where the system refused something, the line of the
+//! fault ends with the reason.
 #![tactic(auto)]
 
 mod help;
 mod input;
+mod open_line;
 mod program;
 mod words;
 
-use acct_outside::Sink;
+use acct_outside::{Sink, SinkFault};
 use acct_text::Word;
 use help::{VERSION, text_of, text_of_suite};
 use input::named_file;
+use open_line::OpenLine;
 use program::{Ended, run_program};
 use real_folder::{RealClock, RealFolder, RealSink, RealSource, SystemError};
 use std::alloc::{AllocError, Global};
@@ -36,21 +38,22 @@ const SYNTAX: u8 = 2;
 
 fn main(rt: HostRuntime) -> ExitCode {
     let mut out = RealSink::new(rt.alloc(), rt.stdout(), "standard output");
-    let mut err = RealSink::new(rt.alloc(), rt.stderr(), "standard error");
+    let mut err = OpenLine::new(RealSink::new(rt.alloc(), rt.stderr(), "standard error"));
     let status = match words_of(&rt) {
         Ok(words) => answer(&rt, process::id(rt.process()), &words, &mut out, &mut err),
         Err(e) if e.kind() == ErrorKind::OutOfMemory => NO_MEMORY,
         Err(_) => tell(&mut err, "accounts: word is not UTF-8\n", SYNTAX),
     };
-    ExitCode::from(status)
+    // The line of a fault whose reason isn't known, or couldn't be told, is open yet.
+    ExitCode::from(status_after(err.close(), status))
 }
 
 // Answers the words after the program's name, as the process with the number, and gives the status.
 fn answer<
     R: Files<File = File> + Input + Clock + Env + AllocGlobal + Clone + Drop,
     O: Write + Drop,
-    E: Write + Drop,
->(rt: &R, process: u32, words: &[Word], out: &mut RealSink<O>, err: &mut RealSink<E>) -> u8 {
+    E: Sink + Drop,
+>(rt: &R, process: u32, words: &[Word], out: &mut RealSink<O>, err: &mut OpenLine<E>) -> u8 {
     match request_of(words) {
         Request::Help => tell(out, text_of_suite(), 0),
         Request::ToolHelp(tool) => tell(out, text_of(tool), 0),
@@ -61,8 +64,13 @@ fn answer<
 
 // Writes a text whole, and gives the status; or that of an output fault, where it couldn't.
 fn tell<S: Sink>(sink: &mut S, text: &str, status: u8) -> u8 {
-    match sink.put(text.as_bytes()) {
-        Ok(()) => status,
+    status_after(sink.put(text.as_bytes()), status)
+}
+
+// The status that is due after a text was put, or that of an output fault, where it wasn't.
+fn status_after(put: Result<(), SinkFault>, due: u8) -> u8 {
+    match put {
+        Ok(()) => due,
         Err(_) => OUTPUT_FAULT,
     }
 }
@@ -71,13 +79,13 @@ fn tell<S: Sink>(sink: &mut S, text: &str, status: u8) -> u8 {
 fn run<
     R: Files<File = File> + Input + Clock + Env + AllocGlobal + Clone + Drop,
     O: Write + Drop,
-    E: Write + Drop,
+    E: Sink + Drop,
 >(
     rt: &R,
     process: u32,
     words: &[Word],
     out: &mut RealSink<O>,
-    err: &mut RealSink<E>,
+    err: &mut OpenLine<E>,
 ) -> Result<u8, AllocError> {
     let mut folder = RealFolder::new(rt.clone()?, process);
     let Some(file) = named_file(rt.alloc(), words)? else {
@@ -95,14 +103,14 @@ fn run_on<
     R: Files<File = File> + Input + Clock + Env + AllocGlobal + Clone + Drop,
     I: Read + Drop,
     O: Write + Drop,
-    E: Write + Drop,
+    E: Sink + Drop,
 >(
     rt: &R,
     words: &[Word],
     folder: &mut RealFolder<R>,
     input: &mut RealSource<'_, I>,
     out: &mut RealSink<O>,
-    err: &mut RealSink<E>,
+    err: &mut OpenLine<E>,
 ) -> Result<u8, AllocError> {
     let mut clock = RealClock::new(rt.clone()?);
     let ended = run_program(rt.alloc(), words, folder, input, out, err, &mut clock);
@@ -120,15 +128,22 @@ fn run_on<
     Ok(ended.status())
 }
 
-// Writes the reason of a fault in the name of the tool, where one is known and there is memory for it.
+// Ends the line of the fault with its reason, where one is known and there is memory for it. Where no
+// line is open, as after a fault of the output, the reason has one of its own, in the name of the tool.
 // The status stays that of the fault.
-fn tell_why<S: Sink>(alloc: Global, err: &mut S, words: &[Word], error: Option<&SystemError>) {
+fn tell_why<S: Sink + Drop>(
+    alloc: Global,
+    err: &mut OpenLine<S>,
+    words: &[Word],
+    error: Option<&SystemError>,
+) {
     let Some(error) = error else {
         return;
     };
+    let start = if err.is_open() { "" } else { teller(words) };
     if let Ok(reason) = error.text(alloc) {
-        if let Ok(line) = format!(in alloc; "{}: {}\n", teller(words), reason.as_str()) {
-            let _ = err.put(line.as_str().as_bytes());
+        if let Ok(end) = format!(in alloc; "{start}: {}\n", reason.as_str()) {
+            let _ = err.end_by(end.as_str().as_bytes());
         }
     }
 }
