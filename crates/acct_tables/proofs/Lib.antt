@@ -1,13 +1,6 @@
 pub mod RecordLines
-pub mod LoadedLines
-pub mod PlaceLemmas
 pub mod LinesHere
 pub mod RenamingLemmas
-pub mod LineTextLemmas
-pub mod FilePlaces
-pub mod KeptLines
-pub mod PutLines
-pub mod IndexedTexts
 pub mod LinesAhead
 pub mod EditedFiles
 pub mod LinesCounted
@@ -18,7 +11,5 @@ pub mod MarkLemmas
 pub mod FrontLines
 pub mod BehindLines
 pub mod MarkedRecords
-pub mod KnownLines
 pub mod FieldMarks
 pub mod HashedNames
-pub mod RenamedNames

@@ -1,11 +1,11 @@
--- Claim: the text at a place is that of the line there (`text-here`), the record at the place is what the
--- line reads as (`record-here`), and so is what the text reads as (`read-here`). Way: by whether there is a line at the place.
-use Rattle.std.proofs.Common.{◌≡◌, ℕ, ◌<◌, false, List, [], length, get_or, sym, ◌∙◌, ap}
+-- Claim: the record at a place is what the line there reads as (`record-here`). Way: by whether there is a
+-- line at the place.
+use Rattle.std.proofs.Common.{◌≡◌, ℕ, ◌<◌, false, List, [], length, get_or, ap}
 use Rattle.std.specs.Prelude.{Some, None}
 use Rattle.std.proofs.lemmas.Option.{slice_get-get_or}
 use Rattle.acct_text.specs.Lines.{Line}
 use Rattle.account_model.specs.Format.{Format}
-use Rattle.acct_tables.specs.TableLines.{record_at, text_at}
+use Rattle.acct_tables.specs.TableLines.{record_at}
 
 -- a line without bytes, for a place that isn't there
 abbrev pub blank_line : Line
@@ -14,15 +14,6 @@ blank_line = record { text = []; ended = false }
 -- the line at a place
 abbrev pub line_here : List Line → ℕ → Line
 line_here lines place = get_or lines place blank_line
-
--- the text at a place is that of the line there
-pub text-here :
-    (lines : List Line) (place : ℕ)
-    → place < length lines
-    → text_at lines place ≡ (line_here lines place).text
-text-here lines place inside =
-    ap (λ found. elim found [ None ↦ [] | Some line ↦ line.text ])
-    (slice_get-get_or lines place blank_line inside)
 
 module _ {R : Type 0} (format : Format R) where
   -- the record at a place is that of the line there
@@ -33,11 +24,3 @@ module _ {R : Type 0} (format : Format R) where
   record-here lines place inside =
       ap (λ found. elim found [ None ↦ None | Some line ↦ format.read line.text ])
       (slice_get-get_or lines place blank_line inside)
-
-  -- its text reads as the record there
-  pub read-here :
-      (lines : List Line) (place : ℕ)
-      → place < length lines
-      → format.read (text_at lines place) ≡ record_at format lines place
-  read-here lines place inside =
-      ap format.read (text-here lines place inside) ∙ sym (record-here lines place inside)

@@ -1,9 +1,8 @@
 -- Claim: a file's text behind a newline is from a mark that stands nowhere in front (`from-newline`),
--- and so are no bytes of a text without the mark (`from-none`) and each text from its start
--- (`from-all`); a part of a text that ends in front of the first mark is without it
+-- and so are no bytes of a text without the mark (`from-none`); a part of a text that ends in front of the first mark is without it
 -- (`without-before`). Way: a line in front is a part of the text in front, so a mark in the line is
 -- one in that text.
-use Rattle.std.proofs.Common.{◌≡◌, ◌∙◌, ℕ, ◌+◌, ◌-◌, ◌<◌, ◌≤◌, true, List, [], ◌∷◌, ◌++◌, length, map, take, drop, refl, sym, ap, subst, arith, lt_irrefl, append_assoc, append-nil}
+use Rattle.std.proofs.Common.{◌≡◌, ◌∙◌, ℕ, ◌+◌, ◌-◌, ◌<◌, ◌≤◌, true, List, [], ◌∷◌, ◌++◌, length, map, take, drop, sym, ap, subst, arith, lt_irrefl, append_assoc, append-nil}
 use Rattle.std.specs.Prelude.{slice_index}
 use Rattle.std.specs.List.{AllByRecursion, join_with_byte}
 use Rattle.std.proofs.lemmas.Bool.{eqb-true}
@@ -137,10 +136,6 @@ module _ (mark : List ℕ) where
     without = lines-without (lines_of text)
         (λ holds. without (subst (Holds mark) (lines_of-are text).joined holds));
   }
-
-  -- a text from its start
-  pub from-all : (text : List ℕ) → IsFromMark mark text text
-  from-all text = record { front = []; joined = refl; without = tt }
 
   -- the mark is found where it stands
   occurs :

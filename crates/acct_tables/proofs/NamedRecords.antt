@@ -1,6 +1,5 @@
--- Claim: what is told of a name among the lines of a table is what is so among their records: the
--- first of the name (`found-first`, `found-none`), how many they are (`told-count`), and so whether
--- one has it or several do (`told-has`, `told-several`), and whether one in front of a line does
+-- Claim: what is told of a name among the lines of a table is what is so among their records: how many
+-- they are (`told-count`), and so whether one has it or several do (`told-has`, `told-several`), and whether one in front of a line does
 -- (`told-before`). Way: line by line, where a line is a record of the name by its own name.
 use Rattle.std.proofs.Common.{◌≡◌, ℕ, ◌+◌, ◌<◌, Bool, true, false, List, [], ◌∷◌, ◌++◌, length, zero-add, arith, refl, sym, ◌∙◌, ap, ap₂, cond, if◌then◌else◌}
 use Rattle.std.specs.Prelude.{Option, Some, None, count_by, is_some, nat_le, nat_lt, option_map}
@@ -12,7 +11,7 @@ use Rattle.std.proofs.lemmas.Slice.Eq.{bytes_eq-Decides}
 use Rattle.acct_text.specs.Lines.{Line}
 use Rattle.account_model.specs.Format.{Format, count_named, find_named, has_named, is_named, records_of}
 use Rattle.acct_tables.specs.NameIndex.{are_several, begins_before, has_name, line_name, line_names, lines_named, records_at}
-use Rattle.acct_tables.specs.TableLines.{line_is_named, record_at}
+use Rattle.acct_tables.specs.TableLines.{line_is_named}
 use Rattle.acct_tables.proofs.FirstRecords.{found-at, record_of}
 use Rattle.acct_tables.proofs.NameIndexLemmas.{none-counts}
 use Rattle.acct_tables.proofs.RecordLines.{counted-by}
@@ -94,25 +93,6 @@ module _ {R : Type 0} (format : Format R) (name : List ℕ) where
         found-at format (is_named format name) lines
         ∙ ap (record_of format lines) (sym (told-place lines 0))
 
-    -- the first line that is told, by whether there is one
-    first-told :
-        (first : Option ℕ) (count place : ℕ) (found : Option R)
-        → found ≡ record_of format lines first
-        → option_map (λ told. told.first) (records_at first count) ≡ Some place
-        → found ≡ record_at format lines place
-    first-told None count place found is first = absurd cc
-    first-told (Some other) count place found is first =
-        let same : other ≡ place = cc in is ∙ ap (record_at format lines) same
-
-    -- the record of the first line that is told is found
-    pub found-first :
-        (place : ℕ)
-        → option_map (λ told. told.first) (lines_named name names) ≡ Some place
-        → find_named format name (records_of format lines) ≡ record_at format lines place
-    found-first place first =
-        first-told (position_from (has_name name) 0 names) (count_by (has_name name) names) place
-        (find_named format name (records_of format lines)) found-there first
-
     -- nothing is told, by whether there is a first line
     none-told :
         (first : Option ℕ) (count : ℕ) (found : Option R)
@@ -121,14 +101,6 @@ module _ {R : Type 0} (format : Format R) (name : List ℕ) where
         → found ≡ None
     none-told None count found is none = is
     none-told (Some place) count found is none = absurd cc
-
-    -- where nothing is told, no record is found
-    pub found-none :
-        lines_named name names ≡ None
-        → find_named format name (records_of format lines) ≡ None
-    found-none none =
-        none-told (position_from (has_name name) 0 names) (count_by (has_name name) names)
-        (find_named format name (records_of format lines)) found-there none
 
     -- several, by whether there is a first line
     several-by :

@@ -1,15 +1,11 @@
-//! The lines of an account file, of which some are records, how these are found, and edits of them
-//! (passwd(5), shadow(5), group(5), gshadow(5), subuid(5), subgid(5)).
+//! The lines of an account file, of which some are records, and how these are found (passwd(5),
+//! shadow(5), group(5), gshadow(5), subuid(5), subgid(5)).
 //!
-//! `Lines` takes the lines of a large file one after another where they stand in its bytes.
-//! `EditedLines` keeps them there until edits change them, with an index of their names. A line keeps
-//! its bytes until an edit puts another record into it, and after want of memory the lines are as
-//! before the call.
+//! `Lines` takes the lines of a large file one after another where they stand in its bytes, and passes
+//! over those without a mark at once. `NameIndex` tells of all names of a file after one pass.
 #![tactic(auto)]
 
-mod edited_lines;
 mod line;
-mod line_texts;
 mod lines;
 mod list_record;
 mod marks;
@@ -20,7 +16,6 @@ mod owner;
 mod renaming;
 
 pub use acct_lines::TableRecord;
-pub use edited_lines::EditedLines;
 pub use line::{is_named, is_record, name_of, read_record};
 pub use lines::{FileLine, Lines, append_line, find_record, has_record, has_several_records};
 pub use list_record::ListRecord;

@@ -17,10 +17,9 @@ use crate::listing::aging_report;
 use account_model::Refusal;
 use acct_text::{Bytes, Names};
 use command_values::{Asked, Form, ToolFault, read_date, read_days};
-use hash_edits::{demand_shadow, hash_alone};
 use line_edits::{DaysChange, ShadowAct, ShadowFields};
 use std::alloc::{AllocError, Global};
-use table_edits::{Report, Script};
+use table_edits::{Report, Script, demand_shadow, hash_alone};
 use table_lookups::Tables;
 
 /// The script that sets the fields of the user's record in shadow; `-l` changes nothing.

@@ -11,10 +11,9 @@ ghost use Rattle.aging_commands.specs.HashLines.{hash_script, seen_line};
 use crate::hash_lines::{NewHash, read_hashes};
 use acct_text::{Bytes, lines};
 use command_values::ToolFault;
-use hash_edits::{change_user_hash, demand_indexed};
 use line_edits::{HashChange, ShadowAct};
 use std::alloc::{AllocError, Global};
-use table_edits::Script;
+use table_edits::{Script, change_user_hash, demand_indexed};
 use table_lookups::{Tables, UserIndex};
 
 /// The script that sets the hashes of the users, and with shadow their last change to the day. Of

@@ -3,8 +3,8 @@
 -- (`cut-gone`); and the numbers are those of the others with those that are left (`cut-lost`,
 -- `cut-made`, `cut-gone-numbers`). Way: the cut leaves the ranges of others, and what is left of the
 -- only one has its owner.
-use Rattle.std.proofs.Common.{◌≡◌, ◌∙◌, ℕ, true, false, List, [], ◌∷◌, ◌++◌, append-nil, arith, get_or, length, refl, sym, ap, subst, inl, inr, if◌then◌else◌}
-use Rattle.std.specs.Prelude.{Option, Some, None, IfSome, bytes_eq, count_by, filter, flat_map}
+use Rattle.std.proofs.Common.{◌≡◌, ◌∙◌, ℕ, Bool, true, false, List, [], ◌∷◌, ◌++◌, append-nil, get_or, length, refl, sym, ap, subst, inl, inr, if◌then◌else◌}
+use Rattle.std.specs.Prelude.{Option, Some, None, IfSome, bytes_eq, count_by, filter, flat_map, nat_lt}
 use Rattle.std.specs.List.{AllByRecursion, cons_option}
 use Rattle.std.proofs.lemmas.Bool.{cases_Bool, false≢true}
 use Rattle.std.proofs.lemmas.Slice.Eq.{bytes_eq-Decides}
@@ -14,13 +14,13 @@ use Rattle.account_model.specs.Edits.Edit.{Become, Put}
 use Rattle.account_model.specs.Format.{records_of}
 use Rattle.account_model.specs.RecordEdits.{IsWrittenEdit}
 use Rattle.account_model.specs.Faults.{subid_fault}
-use Rattle.account_model.specs.Records.{subid_format}
+use Rattle.account_model.specs.Records.{last_id, subid_format}
 use Rattle.account_model.specs.Tables.{table_after, table_records}
 use Rattle.account_model.specs.Written.{IsWritten}
 use Rattle.account_model.proofs.FormatLaws.{subid-is_format}
 use Rattle.account_model.proofs.ListLaws.{all-filter}
 use Rattle.account_model.specs.FreeRange.{meets}
-use Rattle.account_model.specs.SubidOwner.{is_owned}
+use Rattle.account_model.specs.SubidOwner.{is_owned, left_without}
 use Rattle.line_edits.specs.SeenEdits.{seen_edit, seen_edits}
 use Rattle.line_edits.specs.SubidChanges.{subid_becomes}
 use Rattle.line_edits.specs.declared.edit.Edit.{Edit}
@@ -33,8 +33,8 @@ use Rattle.subid_ranges.specs.RangeNumbers.{AreNumbersOf}
 use Rattle.subid_ranges.specs.declared.range_numbers.RangeNumbers.{RangeNumbers}
 use Rattle.subid_ranges.proofs.RangeNumbersLemmas.{alike-numbers}
 use Rattle.carried_tables.specs.RangeNumbers.{AreNumbersIn, FollowsGain, FollowsLoss, IsCutBy, IsOnlyOf}
-use Rattle.carried_lines.specs.TableEdits.{AreWritten}
-use Rattle.record_keys.proofs.ChangeKeys.{left-owner}
+use Rattle.table.specs.TableEdits.{AreWritten}
+use Rattle.carried_tables.proofs.EditedTables.{only-one}
 use Rattle.carried_tables.proofs.NumberLemmas.{after-change, counted-parts, left_by, numbers-made}
 use Rattle.carried_tables.proofs.OnlyRange.{all-only, put-table, same-table}
 
@@ -87,6 +87,28 @@ name-owned :
     → is_owned name uid r ≡ true
 name-owned name None r is = is
 name-owned name (Some uid) r is = rw is refl
+
+-- the first of what is left of a range, if something is, has its owner: by whether there is something
+-- below the first number that goes, and above the last
+piece-owner :
+    (below above : Bool) (r low high : SubidRecord)
+    → low.owner ≡ r.owner
+    → high.owner ≡ r.owner
+    → (get_or ((if below then low ∷ [] else []) ++ (if above then high ∷ [] else [])) 0 r).owner
+    ≡ r.owner
+piece-owner true above r low high below_owned above_owned = below_owned
+piece-owner false true r low high below_owned above_owned = above_owned
+piece-owner false false r low high below_owned above_owned = refl
+
+-- so has what becomes of a range, by whether it's the owner's
+left-owner :
+    (owned : Bool) (first last : ℕ) (r s : SubidRecord)
+    → (if owned then left_without first last r else r ∷ []) ≡ s ∷ []
+    → s.owner ≡ r.owner
+left-owner true first last r s is =
+    sym (ap (λ made. (get_or made 0 r).owner) is)
+    ∙ piece-owner (nat_lt r.first first) (nat_lt last (last_id r)) r _ _ refl refl
+left-owner false first last r s is = sym (ap (λ made. (get_or made 0 r).owner) is)
 
 -- who isn't the owner hasn't the name
 other-name :
@@ -239,9 +261,7 @@ pub alone-seen :
     → length one ≡ 1
     → edit ≡ get_or one 0 edit
     → seen_edits subid_becomes one ≡ seen_edit subid_becomes edit ∷ []
-alone-seen [] edit single is = absurd (omega arith)
-alone-seen (first ∷ []) edit single is = ap (λ edit. seen_edit subid_becomes edit ∷ []) (sym is)
-alone-seen (first ∷ other ∷ rest) edit single is = absurd (omega arith)
+alone-seen one edit single is = ap (seen_edits subid_becomes) (only-one one edit single is)
 
 -- a cut that is the only edit prints what can be read
 pub written-cut :

@@ -1,6 +1,7 @@
--- Claim: the first edit of a list and then the others make of a table what all make (`table-two`).
--- Way: what an edit makes of lines are lines of a file (`table-step`).
-use Rattle.std.proofs.Common.{◌≡◌, ℕ, true, false, List, [], ◌∷◌, refl, sym, ap, take, drop}
+-- Claims: the first edit of a list and then the others make of a table what all make (`table-two`), and the
+-- only edit of a list may print what all may (`only-written`). Way: what an edit makes of lines are lines
+-- of a file (`table-step`).
+use Rattle.std.proofs.Common.{◌≡◌, ℕ, true, false, List, [], ◌∷◌, arith, get_or, length, refl, sym, ap, subst, take, drop}
 use Rattle.std.specs.Prelude.{Option, Some, None, is_some}
 use Rattle.acct_text.specs.Lines.{file_bytes, lines_of}
 use Rattle.acct_text.proofs.LinesLaws.{lines_of-are}
@@ -11,7 +12,7 @@ use Rattle.account_model.specs.Tables.{table_after}
 use Rattle.acct_tables.proofs.EditedFiles.{edit-found}
 use Rattle.line_edits.specs.declared.edit.Edit.{Edit as DataEdit}
 use Rattle.line_edits.specs.SeenEdits.{seen_edit, seen_edits}
-use Rattle.carried_lines.specs.TableEdits.{AreWritten, table_by}
+use Rattle.table.specs.TableEdits.{AreWritten, table_by}
 
 module _ {R : Type 0} (format : Format R) where
   -- an edit, and then the others
@@ -55,6 +56,23 @@ pub table-two :
 table-two becomes format [] file none written = table-none format (table_after format [] file)
 table-two becomes format (edit ∷ edits) file none written =
     table-step format (seen_edit becomes edit) (seen_edits becomes edits) file none written.0
+
+-- a list of one
+pub only-one :
+    {X : Type 0} (xs : List X) (x : X) → length xs ≡ 1 → x ≡ get_or xs 0 x → xs ≡ x ∷ []
+only-one [] x one is = absurd (omega (arith, one))
+only-one (y ∷ []) x one is = ap (λ z. z ∷ []) (sym is)
+only-one (y ∷ z ∷ rest) x one is = absurd (omega (arith, one))
+
+-- the only edit may print what all may
+pub only-written :
+    {R C : Type 0} (becomes : C → R → List R) (format : Format R) (edits : List (DataEdit R C))
+    (edit : DataEdit R C)
+    → edits ≡ edit ∷ []
+    → AreWritten format becomes edits
+    → IsWrittenEdit format (seen_edit becomes edit)
+only-written becomes format edits edit is written =
+    (subst (AreWritten format becomes) is written).0
 
 -- an absent file stays absent
 pub absent-stays :

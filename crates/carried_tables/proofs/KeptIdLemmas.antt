@@ -45,10 +45,6 @@ without-none before after is = omega (arith, is)
 more-none : (after before : ℕ) → after ≡ before → after ≡ before + 0
 more-none after before is = omega (arith, is)
 
--- no ID stands in no list
-counts-none : (id : ℕ) → counts_of [] id ≡ 0
-counts-none id = refl
-
 -- one of a list by itself
 counts-one : (first id : ℕ) → counts_of (first ∷ []) id ≡ cond (first == id) 1 0
 counts-one first id = zero-add (cond (first == id) 1 0)

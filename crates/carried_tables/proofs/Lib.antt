@@ -1,4 +1,5 @@
 pub mod EditedTables
+pub mod GatheredIds
 pub mod OwnerLemmas
 pub mod NumberLemmas
 pub mod KeptIdLemmas

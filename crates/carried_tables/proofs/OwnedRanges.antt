@@ -1,68 +1,17 @@
--- Claims: the ranges of an owner that has one at most are the one that is found (`owned-found`), each
--- of them has the key by which it's looked for (`owner-key`), and where none has the number of the
--- owner, the one that is found is its only one (`only-found`). Way: range by range.
-use Rattle.std.proofs.Common.{◌≡◌, ◌∙◌, ℕ, ◌+◌, ◌<◌, Bool, true, false, List, [], ◌∷◌, cond, refl, sym, ap, subst, inl, inr, arith}
-use Rattle.std.specs.Prelude.{◌||◌, ◌==◌, Option, Some, None, IfSome, bytes_eq, decimal, filter}
-use Rattle.std.specs.List.{cons_option, list_any}
-use Rattle.std.proofs.Math.Bool.{or-false}
-use Rattle.std.proofs.lemmas.Bool.{cases_Bool, eq-eqb, or_parts}
-use Rattle.std.proofs.lemmas.List.Sums.{sum_by-cons}
+-- Claim: where no range has the number of an owner, and one alone the name, that is its only one
+-- (`only-popped`). Way: range by range.
+use Rattle.std.proofs.Common.{◌≡◌, ◌∙◌, ℕ, Bool, true, false, List, [], ◌∷◌, ◌++◌, cond, length, refl, sym, ap, subst, inl, inr, arith}
+use Rattle.std.specs.Prelude.{◌||◌, Option, Some, None, IfSome, bytes_eq, decimal, filter}
+use Rattle.std.specs.List.{list_any}
+use Rattle.std.specs.Option.{option_to_list}
+use Rattle.std.proofs.lemmas.List.{length-append}
+use Rattle.std.proofs.lemmas.Bool.{cases_Bool, or_parts}
 use Rattle.std.proofs.lemmas.Slice.Eq.{bytes_eq-Decides}
 use Rattle.account_model.specs.declared.records.SubidRecord.{SubidRecord}
-use Rattle.account_model.specs.Format.{count_named, find_named, is_named}
+use Rattle.account_model.specs.Format.{is_named}
 use Rattle.account_model.specs.Records.{subid_format}
 use Rattle.account_model.specs.SubidOwner.{is_owned}
-use Rattle.acct_tables.specs.NameHashes.{name_hash}
-use Rattle.carried_lines.specs.Accepting.{IsKeyOf}
-use Rattle.record_keys.specs.Keys.{subid_keys}
 use Rattle.carried_tables.specs.RangeNumbers.{IsOnlyOf, is_numbered}
-
-module _ (owner : List ℕ) where
-  -- so many have the name as their owner, the first among them
-  counted :
-      (r : SubidRecord) (ranges : List SubidRecord) (named : Bool)
-      → is_named subid_format owner r ≡ named
-      → count_named subid_format owner (r ∷ ranges)
-      ≡ cond named 1 0 + count_named subid_format owner ranges
-  counted r ranges named is =
-      sum_by-cons (λ s. cond (is_named subid_format owner s) 1 0) r ranges
-      ∙ ap (λ named. cond named 1 0 + count_named subid_format owner ranges) is
-
-  -- where none has it, there are none
-  none-owned :
-      (ranges : List SubidRecord)
-      → count_named subid_format owner ranges ≡ 0
-      → filter (is_named subid_format owner) ranges ≡ []
-  none-owned [] none = refl
-  none-owned (r ∷ ranges) none = elim (cases_Bool (is_named subid_format owner r)) [
-    | inl named ↦ absurd (omega (arith, none, counted r ranges true named))
-    | inr other ↦
-        rw other (none-owned ranges (omega (arith, none, counted r ranges false other)))
-  ]
-
-  -- where one has it at most, they are that which is found
-  pub owned-found :
-      (ranges : List SubidRecord)
-      → count_named subid_format owner ranges < 2
-      → filter (is_named subid_format owner) ranges
-      ≡ cons_option (find_named subid_format owner ranges) []
-  owned-found [] single = refl
-  owned-found (r ∷ ranges) single = elim (cases_Bool (is_named subid_format owner r)) [
-    | inl named ↦
-        rw named (ap (λ rest. r ∷ rest)
-        (none-owned ranges (omega (arith, single, counted r ranges true named))))
-    | inr other ↦
-        rw other (owned-found ranges (omega (arith, single, counted r ranges false other)))
-  ]
-
-  -- each of them has the hash of the name as a key
-  pub owner-key : IsKeyOf subid_keys (is_named subid_format owner) (name_hash owner)
-  owner-key r named =
-      or-false (name_hash r.owner == name_hash owner)
-      ∙ eq-eqb (name_hash r.owner) (name_hash owner)
-      (ap name_hash ((bytes_eq-Decides r.owner owner).0 named))
-
--- ---- How the only range is found
 
 -- by whether the first range is the owner's, whose number isn't
 owned-first :
@@ -101,33 +50,32 @@ accepts-only test only (r ∷ ranges) is = elim (cases_Bool (test r)) [
   | inr refused ↦ accepts-only test only ranges (rw refused at is)
 ]
 
--- the range that is found is the only one of the owner, where none has the number and none else the
--- name
-pub only-found :
+-- the one range of the name is the only one of the owner, where none has the number
+only-found :
     (name : List ℕ) (uid : Option ℕ) (ranges : List SubidRecord) (only : SubidRecord)
     → list_any (is_numbered uid) ranges ≡ false
-    → count_named subid_format name ranges < 2
-    → find_named subid_format name ranges ≡ Some only
+    → filter (is_named subid_format name) ranges ≡ only ∷ []
     → IsOnlyOf name uid ranges only
-only-found name uid ranges only none single found =
-    let one : filter (is_named subid_format name) ranges ≡ only ∷ [] =
-    owned-found name ranges single ∙ ap (λ found. cons_option found []) found in
-    record {
-      alone = unnumbered name uid ranges none ∙ one;
-      named = (bytes_eq-Decides only.owner name).0
-          (accepts-only (is_named subid_format name) only ranges one);
-    }
+only-found name uid ranges only none one = record {
+  alone = unnumbered name uid ranges none ∙ one;
+  named = (bytes_eq-Decides only.owner name).0
+      (accepts-only (is_named subid_format name) only ranges one);
+}
 
--- where it is found so, if it is
-pub only-if-found :
-    (name : List ℕ) (uid : Option ℕ) (ranges : List SubidRecord) (found : Option SubidRecord)
+-- where the one of the name is taken out of a list of one, it is that
+pub only-popped :
+    (name : List ℕ) (uid : Option ℕ) (ranges named left : List SubidRecord)
+    (popped : Option SubidRecord)
     → list_any (is_numbered uid) ranges ≡ false
-    → count_named subid_format name ranges < 2
-    → found ≡ find_named subid_format name ranges
-    → IfSome found (IsOnlyOf name uid ranges)
-only-if-found name uid ranges None none single is = tt
-only-if-found name uid ranges (Some only) none single is =
-    only-found name uid ranges only none single (sym is)
+    → named ≡ filter (is_named subid_format name) ranges
+    → length named ≡ 1
+    → named ≡ left ++ option_to_list popped
+    → IfSome popped (IsOnlyOf name uid ranges)
+only-popped name uid ranges named left None none are one taken = tt
+only-popped name uid ranges named [] (Some only) none are one taken =
+    only-found name uid ranges only none (sym are ∙ taken)
+only-popped name uid ranges named (first ∷ left) (Some only) none are one taken =
+    absurd (omega (arith, one, ap length taken, length-append left (only ∷ [])))
 
 -- no range has a number that isn't known
 pub none-numbered : (ranges : List SubidRecord) → list_any (is_numbered None) ranges ≡ false

@@ -6,26 +6,26 @@ ghost use Rattle.line_edits.specs.GroupChanges.{group_becomes};
 ghost use Rattle.line_edits.specs.GshadowChanges.{gshadow_becomes};
 ghost use Rattle.line_edits.specs.PasswdChanges.{passwd_becomes};
 ghost use Rattle.line_edits.specs.ShadowChanges.{shadow_becomes};
-ghost use Rattle.carried_lines.specs.TableEdits.{AreWritten, table_by};
+ghost use Rattle.table.specs.TableEdits.{AreWritten, table_by};
 
 use crate::{IdRecord, IdTable, RangeTable};
 use acct_lines::{GroupRecord, GshadowRecord, PasswdRecord, ShadowRecord};
 use acct_text::{Bytes, Files};
-use carried_lines::CarriedTable;
 use line_edits::{Edit, GroupChange, GshadowChange, PasswdChange, ShadowChange};
 use record_keys::KeyedRecord;
 use std::alloc::{AllocError, Global};
 use std::marker::Model;
 use std::mem::replace;
+use table::Table;
 
 /// The six tables, which edits change where they stand: a command takes no pass over all records for
 /// what it looks up by name, for the IDs that are used, and for edits of records that it names.
 /// Contracts see them as the files.
 pub struct CarriedTables {
     passwd: IdTable<PasswdRecord>,
-    shadow: CarriedTable<ShadowRecord>,
+    shadow: Table<ShadowRecord>,
     group: IdTable<GroupRecord>,
-    gshadow: CarriedTable<GshadowRecord>,
+    gshadow: Table<GshadowRecord>,
     subuid: RangeTable,
     subgid: RangeTable,
 }
@@ -66,9 +66,9 @@ impl CarriedTables {
     {
         let mut tables = CarriedTables {
             passwd: IdTable::absent(),
-            shadow: CarriedTable::absent(),
+            shadow: Table::absent(),
             group: IdTable::absent(),
-            gshadow: CarriedTable::absent(),
+            gshadow: Table::absent(),
             subuid: RangeTable::absent(),
             subgid: RangeTable::absent(),
         };
@@ -97,7 +97,7 @@ impl CarriedTables {
     }
 
     /// The table shadow(5).
-    pub fn shadow(&self) -> &CarriedTable<ShadowRecord>
+    pub fn shadow(&self) -> &Table<ShadowRecord>
         ensures { result.now ≡ self.now.shadow }
     {
         &self.shadow
@@ -111,7 +111,7 @@ impl CarriedTables {
     }
 
     /// The table gshadow(5).
-    pub fn gshadow(&self) -> &CarriedTable<GshadowRecord>
+    pub fn gshadow(&self) -> &Table<GshadowRecord>
         ensures { result.now ≡ self.now.gshadow }
     {
         &self.gshadow
@@ -219,12 +219,12 @@ fn load_ids<R: IdRecord + Drop>(
 // Puts the table of a file in the place of another.
 fn load_lines<R: KeyedRecord + Drop>(
     alloc: Global,
-    table: &mut CarriedTable<R>,
+    table: &mut Table<R>,
     file: &Option<Bytes>,
 ) -> Result<(), AllocError>
     ensures { OnOk result (table.new ≡ file.now) }
 {
-    *table = CarriedTable::of(alloc, file)?;
+    *table = Table::of(alloc, file)?;
     Ok(())
 }
 

@@ -8,22 +8,22 @@ ghost use Rattle.account_model.specs.Ids.{is_used};
 ghost use Rattle.id_choice.specs.Used.{AreThoseOf};
 ghost use Rattle.line_edits.specs.SeenEdits.{seen_edit};
 ghost use Rattle.carried_tables.specs.KeptIds.{AreIdsOf, FollowEdit, Renumbers, table_counts};
-ghost use Rattle.carried_lines.specs.TableEdits.{AreWritten, table_by};
+ghost use Rattle.table.specs.TableEdits.{AreWritten, table_by};
 
 use crate::IdsInUse;
 use crate::ids::{IdRecord, Renumbering, listed_ids, used_ids};
 use crate::kept_ids::KeptIds;
 use acct_text::Bytes;
-use carried_lines::CarriedTable;
 use line_edits::Edit;
 use std::alloc::{AllocError, Global};
 use std::marker::Model;
 use std::mem::replace;
+use table::Table;
 
 /// A table of the records R, and their IDs. Contracts see it as the bytes of its file, and none where
 /// the file is absent.
 pub struct IdTable<R: IdRecord> {
-    table: CarriedTable<R>,
+    table: Table<R>,
     // none only where memory was wanting while they changed
     ids: Option<KeptIds>,
 }
@@ -53,7 +53,7 @@ impl<R: IdRecord + Drop> IdTable<R> {
         ensures { result ≡ None }
     {
         IdTable {
-            table: CarriedTable::absent(),
+            table: Table::absent(),
             ids: None,
         }
     }
@@ -62,7 +62,7 @@ impl<R: IdRecord + Drop> IdTable<R> {
     pub(crate) fn of(alloc: Global, file: &Option<Bytes>) -> Result<Self, AllocError>
         ensures { IfOk result (λ table. table ≡ file.now) }
     {
-        let table = CarriedTable::of(alloc, file)?;
+        let table = Table::of(alloc, file)?;
         let ids = ids_of::<R>(alloc, file)?;
         Ok(IdTable {
             table,
@@ -79,7 +79,7 @@ impl<R: IdRecord + Drop> IdTable<R> {
     }
 
     /// The table, for what doesn't ask for IDs.
-    pub fn table(&self) -> &CarriedTable<R>
+    pub fn table(&self) -> &Table<R>
         ensures { result.now ≡ self.now }
     {
         &self.table
@@ -186,7 +186,7 @@ fn ids_of<R: IdRecord>(alloc: Global, file: &Option<Bytes>) -> Result<KeptIds, A
 fn ids_after<R: IdRecord + Drop>(
     alloc: Global,
     before: Option<KeptIds>,
-    table: &CarriedTable<R>,
+    table: &Table<R>,
     edit: &Edit<R, R::Change>,
 ) -> Result<Option<KeptIds>, AllocError>
     requires there { is_some table.now ≡ true }
@@ -209,7 +209,7 @@ fn ids_after<R: IdRecord + Drop>(
 fn follow<R: IdRecord + Drop>(
     alloc: Global,
     ids: &mut KeptIds,
-    table: &CarriedTable<R>,
+    table: &Table<R>,
     edit: &Edit<R, R::Change>,
 ) -> Result<bool, AllocError>
     ensures { IfOk result (λ is_known. is_known ≡ true → FollowEdit R.format R.id_of ids.old ids.new
@@ -229,7 +229,7 @@ fn follow<R: IdRecord + Drop>(
 fn follow_change<R: IdRecord + Drop>(
     alloc: Global,
     ids: &mut KeptIds,
-    table: &CarriedTable<R>,
+    table: &Table<R>,
     change: &R::Change,
 ) -> Result<bool, AllocError>
     ensures { IfOk result (λ is_known. is_known ≡ true → FollowEdit R.format R.id_of ids.old ids.new
@@ -248,7 +248,7 @@ fn follow_change<R: IdRecord + Drop>(
 fn renumber<R: IdRecord + Drop>(
     alloc: Global,
     ids: &mut KeptIds,
-    table: &CarriedTable<R>,
+    table: &Table<R>,
     renumbering: Renumbering<'_>,
 ) -> Result<bool, AllocError>
     ensures { IfOk result (λ is_known. is_known ≡ true → (f : R → List R)
@@ -259,7 +259,8 @@ fn renumber<R: IdRecord + Drop>(
     let Some(lost) = id_named(alloc, table, renumbering.name)? else {
         return Ok(true);
     };
-    if table.has_several(renumbering.name) {
+    let are_several = table.has_several(alloc, renumbering.name)?;
+    if are_several {
         return Ok(false);
     }
     ids.swap(lost, renumbering.new_id)
@@ -268,7 +269,7 @@ fn renumber<R: IdRecord + Drop>(
 // The ID of the first record of the name.
 fn id_named<R: IdRecord + Drop>(
     alloc: Global,
-    table: &CarriedTable<R>,
+    table: &Table<R>,
     name: &[u8],
 ) -> Result<Option<u32>, AllocError>
     ensures { IfOk result (λ id. id ≡

@@ -8,11 +8,11 @@ ghost use Rattle.carried_tables.specs.KeptIds.{KeepsIds, Renumbers, keeps_gid, k
 use acct_lines::{GroupLine, GroupRecord, PasswdLine, PasswdRecord};
 use acct_tables::Lines;
 use acct_text::Bytes;
-use carried_lines::text_of;
 use id_choice::UsedIds;
 use line_edits::{GroupAct, GroupChange, PasswdAct, PasswdChange};
 use record_keys::KeyedRecord;
 use std::alloc::{AllocError, Global};
+use table::text_of;
 
 /// What a change does with the IDs of the records of one name.
 #[derive(Clone, Copy)]

@@ -2,7 +2,7 @@
 //! subuid(5), subgid(5)).
 //!
 //! `CarriedTables` stand in the place of the files for commands that follow one another: each table
-//! keeps its lines (`carried_lines`), those of users and of groups with the IDs that are used
+//! is a `Table` of the crate `table`, those of users and of groups with the IDs that are used
 //! (`id_table`, `kept_ids`), and those of subordinate IDs with the numbers that their ranges take.
 //!
 //! `ids` gathers the IDs that are used in a file; `in_use` is how they are answered. A `RangeTable` of

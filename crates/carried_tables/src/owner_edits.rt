@@ -10,10 +10,10 @@ ghost use Rattle.line_edits.specs.SubidChanges.{subid_becomes};
 ghost use Rattle.carried_tables.specs.RangeNumbers.{IsOnlyOf, is_numbered};
 
 use acct_lines::SubidRecord;
-use carried_lines::CarriedTable;
 use itoa::Buffer;
 use line_edits::{Edit, RangeCut, SubidChange};
 use std::alloc::{AllocError, Global};
+use table::Table;
 
 /// The removal of the ranges of an owner.
 #[derive(Clone, Copy)]
@@ -84,7 +84,7 @@ fn cutting_of(change: &SubidChange) -> Option<Cutting<'_>>
 /// The range of an owner that has one alone, with its name.
 pub(crate) fn only_range(
     alloc: Global,
-    table: &CarriedTable<SubidRecord>,
+    table: &Table<SubidRecord>,
     cut: &RangeCut,
 ) -> Result<Option<SubidRecord>, AllocError>
     ensures { IfOk result (λ found. IfSome found
@@ -93,14 +93,15 @@ pub(crate) fn only_range(
     if has_number(table, cut.uid) {
         return Ok(None);
     }
-    if table.has_several(cut.owner.as_slice()) {
+    let mut ranges = table.all_named(alloc, cut.owner.as_slice())?;
+    if ranges.len() != 1 {
         return Ok(None);
     }
-    table.find(alloc, cut.owner.as_slice())
+    Ok(ranges.pop())
 }
 
 // Whether the owner of a range is the decimal text of the UID.
-fn has_number(table: &CarriedTable<SubidRecord>, uid: Option<u32>) -> bool
+fn has_number(table: &Table<SubidRecord>, uid: Option<u32>) -> bool
     ensures { result ≡ list_any (is_numbered uid) (table_records subid_format table.now) }
 {
     let Some(uid) = uid else {

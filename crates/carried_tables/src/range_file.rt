@@ -9,10 +9,10 @@ ghost use Rattle.account_model.specs.SubidOwner.{is_owned};
 use crate::RangeTable;
 use crate::range_table::{copy_of, gap_in};
 use acct_text::Bytes;
-use carried_lines::text_of;
 use std::alloc::{AllocError, Global};
 use std::marker::Model;
 use subid_ranges::has_owner_in;
+use table::text_of;
 
 /// Where the file stands.
 #[derive(Clone, Copy)]

@@ -8,7 +8,7 @@ ghost use Rattle.account_model.specs.Tables.{table_after, table_records};
 ghost use Rattle.account_model.specs.Written.{IsWritten};
 ghost use Rattle.account_model.specs.FreeRange.{free_range};
 ghost use Rattle.account_model.specs.SubidOwner.{is_owned};
-ghost use Rattle.carried_lines.specs.TableEdits.{AreWritten, table_by};
+ghost use Rattle.table.specs.TableEdits.{AreWritten, table_by};
 ghost use Rattle.line_edits.specs.SubidChanges.{subid_becomes};
 ghost use Rattle.carried_tables.specs.RangeNumbers.{AreNumbersIn, FollowsGain, IsCutBy, IsOnlyOf};
 ghost use Rattle.subid_ranges.specs.declared.range_numbers.RangeNumbers.{RangeNumbers};
@@ -20,17 +20,17 @@ use crate::range_numbers::{
 use crate::range_table::gap_in;
 use acct_lines::SubidRecord;
 use acct_text::Bytes;
-use carried_lines::CarriedTable;
 use itoa::Buffer;
 use line_edits::{Becoming, Edit, EditedRecord, SubidChange};
 use std::alloc::{AllocError, Global};
 use std::marker::Model;
 use subid_ranges::RangeNumbers;
+use table::Table;
 
 /// The lines of a table of ranges, and their numbers where these are known. Contracts see them as the
 /// bytes of the file, and none where it is absent.
 pub(crate) struct RangeLines {
-    table: CarriedTable<SubidRecord>,
+    table: Table<SubidRecord>,
     // none until a range is added; known from then on
     numbers: Option<RangeNumbers>,
 }
@@ -62,7 +62,7 @@ impl RangeLines {
         ensures { IfOk result (λ lines. lines ≡ file.now) }
     {
         Ok(RangeLines {
-            table: CarriedTable::of(alloc, file)?,
+            table: Table::of(alloc, file)?,
             numbers: None,
         })
     }
@@ -282,14 +282,11 @@ impl RangeLines {
         self.remove_named(alloc, name)
     }
 
-    // Removes the ranges whose owner is this text. Where there is none, nothing is noted of it.
+    // Removes the ranges whose owner is this text.
     fn remove_named(&mut self, alloc: Global, owner: &[u8]) -> Result<(), AllocError>
         ensures { OnOk result (self.new ≡ table_after subid_format
             (Become (subid_becomes (SubidChange.Remove owner.now None)) ∷ []) self.old) }
     {
-        if !self.table.has(owner) {
-            return Ok(());
-        }
         let before = self.numbers.take();
         let are_wanted = before.is_some();
         let after = numbers_without(alloc, before, &self.table, owner)?;

@@ -1,9 +1,7 @@
 // How the numbers that the ranges of a table take follow an edit of its lines, and how they are gathered
 // where they don't (useradd(8), userdel(8), usermod(8), `-l`; subuid(5), subgid(5)).
-ghost use Rattle.std.specs.Prelude.{◌≡◌, ◌∷◌, [], None, true, filter, is_some, IfOk, IfSome};
-ghost use Rattle.std.specs.List.{cons_option};
+ghost use Rattle.std.specs.Prelude.{◌≡◌, ◌∷◌, [], None, true, is_some, IfOk, IfSome};
 ghost use Rattle.account_model.specs.Edits.Edit.{Become};
-ghost use Rattle.account_model.specs.Format.{is_named};
 ghost use Rattle.account_model.specs.RecordEdits.{IsWrittenEdit};
 ghost use Rattle.account_model.specs.Records.{subid_format};
 ghost use Rattle.account_model.specs.Tables.{table_after, table_records};
@@ -13,18 +11,17 @@ ghost use Rattle.line_edits.specs.SubidChanges.{subid_becomes};
 ghost use Rattle.carried_tables.specs.RangeNumbers.{AreNumbersIn, FollowsGain, FollowsLoss, KeepsNumbers};
 
 use acct_lines::SubidRecord;
-use acct_tables::name_hash;
-use carried_lines::{CarriedTable, text_of};
 use line_edits::{Edit, SubidChange};
 use std::alloc::{AllocError, Global};
 use subid_ranges::RangeNumbers;
+use table::{Table, text_of};
 
 /// The numbers after the edit, where those before tell them, or a range is added: then they are gathered
 /// where they aren't known.
 pub(crate) fn numbers_after(
     alloc: Global,
     known: Option<RangeNumbers>,
-    table: &CarriedTable<SubidRecord>,
+    table: &Table<SubidRecord>,
     edit: &Edit<SubidRecord, SubidChange>,
 ) -> Result<Option<RangeNumbers>, AllocError>
     requires there { is_some table.now ≡ true }
@@ -55,7 +52,7 @@ fn keeps_numbers(change: &SubidChange) -> bool
 pub(crate) fn numbers_without(
     alloc: Global,
     known: Option<RangeNumbers>,
-    table: &CarriedTable<SubidRecord>,
+    table: &Table<SubidRecord>,
     owner: &[u8],
 ) -> Result<Option<RangeNumbers>, AllocError>
     requires { IfSome known (AreNumbersIn table.now) }
@@ -65,41 +62,11 @@ pub(crate) fn numbers_without(
     let Some(mut numbers) = known else {
         return Ok(None);
     };
-    let Some(ranges) = owned_by(alloc, table, owner)? else {
-        return Ok(None);
-    };
+    let ranges = table.all_named(alloc, owner)?;
     if !numbers.remove_each(&ranges)? {
         return Ok(None);
     }
     Ok(Some(numbers))
-}
-
-// The ranges of an owner, in the order of lines; none where it has several and it isn't known where
-// these stand.
-fn owned_by(
-    alloc: Global,
-    table: &CarriedTable<SubidRecord>,
-    owner: &[u8],
-) -> Result<Option<Vec<SubidRecord>>, AllocError>
-    ensures { IfOk result (λ owned. IfSome owned (λ ranges. ranges.items
-        ≡ filter (is_named subid_format owner.now) (table_records subid_format table.now))) }
-{
-    if table.has_several(owner) {
-        return table.all_named(alloc, owner, name_hash(owner));
-    }
-    let only = table.find(alloc, owner)?;
-    Ok(Some(listed(alloc, only)?))
-}
-
-// A list of the range, if there is one.
-fn listed(alloc: Global, range: Option<SubidRecord>) -> Result<Vec<SubidRecord>, AllocError>
-    ensures { IfOk result (λ ranges. ranges.items ≡ cons_option range []) }
-{
-    let mut ranges = Vec::new(alloc);
-    if let Some(range) = range {
-        ranges.push(range)?;
-    }
-    Ok(ranges)
 }
 
 /// The numbers without those of a range, where those before tell them.
@@ -139,7 +106,7 @@ pub(crate) fn wanted_numbers(
     alloc: Global,
     known: Option<RangeNumbers>,
     are_wanted: bool,
-    table: &CarriedTable<SubidRecord>,
+    table: &Table<SubidRecord>,
 ) -> Result<Option<RangeNumbers>, AllocError>
     requires { IfSome known (AreNumbersIn table.now) }
     ensures numbers { IfOk result (λ numbers. IfSome numbers (AreNumbersIn table.now)) }
@@ -155,7 +122,7 @@ pub(crate) fn wanted_numbers(
 fn known_or_gathered(
     alloc: Global,
     known: Option<RangeNumbers>,
-    table: &CarriedTable<SubidRecord>,
+    table: &Table<SubidRecord>,
 ) -> Result<RangeNumbers, AllocError>
     requires { IfSome known (AreNumbersIn table.now) }
     ensures { IfOk result (AreNumbersIn table.now) }

@@ -6,7 +6,7 @@ ghost use Rattle.account_model.specs.Records.{subid_format};
 ghost use Rattle.account_model.specs.Tables.{table_records};
 ghost use Rattle.account_model.specs.FreeRange.{free_range};
 ghost use Rattle.account_model.specs.SubidOwner.{is_owned};
-ghost use Rattle.carried_lines.specs.TableEdits.{AreWritten, table_by};
+ghost use Rattle.table.specs.TableEdits.{AreWritten, table_by};
 ghost use Rattle.line_edits.specs.SubidChanges.{subid_becomes};
 ghost use Rattle.carried_tables.specs.Standing.{file_in};
 
@@ -14,12 +14,12 @@ use crate::RangeFile;
 use crate::range_lines::RangeLines;
 use acct_lines::SubidRecord;
 use acct_text::Bytes;
-use carried_lines::text_of;
 use line_edits::{Edit, SubidChange};
 use std::alloc::{AllocError, Global};
 use std::marker::Model;
 use std::mem::replace;
 use subid_ranges::{free_gap_in, has_owner_in};
+use table::text_of;
 
 /// How a table stands.
 #[derive(Drop)]

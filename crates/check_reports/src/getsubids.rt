@@ -14,10 +14,10 @@ use account_model::{PasswdRecord, Refusal};
 use acct_tables::find_record;
 use acct_text::Piece::{Number, Text};
 use acct_text::{Bytes, Files};
-use carried_lines::text_of;
 use command_values::Asked;
 use std::alloc::{AllocError, Global};
 use subid_ranges::OwnedRanges;
+use table::text_of;
 use tool_answers::{Decision, refuse};
 
 /// Lists the ranges of the user in subuid(5), or with `-g` in subgid(5). `NoRanges` refuses a user

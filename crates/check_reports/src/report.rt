@@ -18,8 +18,8 @@ use crate::problems::Problems;
 use acct_lines::{ReadFault, TableRecord};
 use acct_tables::{Lines, NameIndex};
 use acct_text::{Bytes, Tab, push_decimal};
-use carried_lines::text_of;
 use std::alloc::{AllocError, Global};
+use table::text_of;
 use tool_answers::Decision;
 
 // The status of a report with a problem.

@@ -11,8 +11,8 @@ use account_model::{GroupRecord, PasswdRecord};
 use acct_lines::{GroupLine, PasswdLine, TableRecord};
 use acct_tables::{FileLine, Lines, NameIndex, is_record, name_of};
 use acct_text::Bytes;
-use carried_lines::text_of;
 use std::alloc::{AllocError, Global};
+use table::text_of;
 
 /// What the records of a table are sorted by.
 pub(crate) trait SortKey<R: TableRecord> {

@@ -16,10 +16,9 @@ ghost use Rattle.group_commands.specs.GroupaddGid.{GivesGid};
 use account_model::{IdSort, Refusal};
 use acct_text::Bytes;
 use command_values::{Asked, Form, ToolFault, check_name, free_id};
-use hash_edits::add_group;
 use login_defs::Defs;
 use std::alloc::{AllocError, Global};
-use table_edits::Script;
+use table_edits::{Script, add_group};
 use table_lookups::Tables;
 
 /// The edits that make the group of the name, with the GID of `-g` or a chosen one.

@@ -13,10 +13,9 @@ ghost use Rattle.table_lookups.specs.Stopping.{StopsBy};
 use account_model::{GroupRecord, Refusal};
 use acct_text::Bytes;
 use command_values::{Asked, Form, ToolFault};
-use hash_edits::set_group_hash;
 use line_edits::{Edit, GroupAct, GshadowAct, PasswdAct, PasswdChange, PrimaryGroup};
 use std::alloc::{AllocError, Global};
-use table_edits::Script;
+use table_edits::{Script, set_group_hash};
 use table_lookups::Tables;
 
 /// The script that changes the group: the hash of `-p`, the GID of `-g`, and at last the name of

@@ -1,7 +1,7 @@
--- Claim: what is done with the line at a place is what the record there becomes (`change-other`,
--- `change-left`, `change-stays`, `change-sets`), and what is done with a line alone too (`left-line`,
--- `other-line`, `record-line`, `same-line`). Way: the line at the place reads as the record that was
--- found there (`record-here`), so it becomes what `line_becomes` says of it (`becomes-read`).
+-- Claim: what is done with the line at a place is what the record there becomes (`change-other`), and what
+-- is done with a line alone too (`left-line`, `other-line`, `record-line`, `same-line`). Way: the line at
+-- the place reads as the record that was found there (`record-here`), so it becomes what `line_becomes`
+-- says of it (`becomes-read`).
 use Rattle.std.proofs.Common.{◌≡◌, ℕ, ◌+◌, ◌<◌, Bool, true, false, List, [], ◌∷◌, length, map, drop, refl, sym, ◌∙◌, ap, inl, inr, append-nil}
 use Rattle.std.specs.Prelude.{bytes_eq, Option, Some, None, if◌then◌else◌}
 use Rattle.std.proofs.lemmas.Bool.{cases_Bool, false_from_ne_true}
@@ -12,11 +12,11 @@ use Rattle.account_model.specs.Format.{Format}
 use Rattle.account_model.specs.Edits.{becomes, line_becomes}
 use Rattle.account_model.specs.RecordEdits.{TellsSame}
 use Rattle.account_model.specs.Written.{IsWritten}
-use Rattle.acct_tables.specs.TableLines.{record_at, changed_at, with_record, text_at}
-use Rattle.acct_tables.proofs.LinesHere.{blank_line, line_here, read-here, record-here}
+use Rattle.acct_tables.specs.TableLines.{record_at}
+use Rattle.acct_tables.proofs.LinesHere.{blank_line, line_here, record-here}
 use Rattle.line_edits.specs.Naming.{Leaves}
 use Rattle.line_edits.specs.Places.{spliced_at}
-use Rattle.line_edits.proofs.Splices.{spliced-same, spliced-one}
+use Rattle.line_edits.proofs.Splices.{spliced-same}
 
 module _ {R : Type 0} (format : Format R) where
   -- a line of which the record becomes others
@@ -71,20 +71,6 @@ module _ {R : Type 0} (format : Format R) where
             ∙ sym apart
       ]
 
-  -- the line with the record, by the record that it has
-  pub with-record :
-      (line : Line) (kept : Option R) (r s : R)
-      → kept ≡ Some r
-      → (elim kept [
-        | None ↦ record line { text = format.print s }
-        | Some old ↦ if format.same old s then line else record line { text = format.print s }
-      ])
-      ≡ (if format.same r s then line else record line { text = format.print s })
-  with-record line None r s is = absurd cc
-  with-record line (Some old) r s is =
-      let same : old ≡ r = cc in
-      ap (λ t. if format.same t s then line else record line { text = format.print s }) same
-
   module _ (f : R → List R) (lines : List Line) (place : ℕ) (inside : place < length lines) where
     -- the lines from the place on
     from-here : drop place lines ≡ line_here lines place ∷ drop (place + 1) lines
@@ -115,15 +101,6 @@ module _ {R : Type 0} (format : Format R) where
         ∙ ap (line_becomes format line r) (left r refl)
         ∙ stays line r (format.same r r) ((tells r r).1 refl)))
 
-    -- a line that the change leaves stays
-    pub change-left :
-        TellsSame format
-        → Leaves format f (text_at lines place)
-        → lines ≡ spliced_at (becomes format f) place lines
-    change-left tells left =
-        left-by (record_at format lines place) refl tells
-        (λ r is. left r (read-here format lines place inside ∙ is))
-
     module _ (r : R) (found : record_at format lines place ≡ Some r) where
       -- the line becomes what its record becomes
       becomes-here :
@@ -132,28 +109,6 @@ module _ {R : Type 0} (format : Format R) where
       becomes-here =
           becomes-read f (line_here lines place) (format.read (line_here lines place).text) r
           (sym (record-here format lines place inside) ∙ found)
-
-      -- a record that stays leaves the lines
-      pub change-stays :
-          TellsSame format → f r ≡ r ∷ [] → lines ≡ spliced_at (becomes format f) place lines
-      change-stays tells same =
-          let line = line_here lines place in
-          sym (spliced-same (becomes format f) lines place line from-here
-          (becomes-here ∙ ap (line_becomes format line r) same
-          ∙ stays line r (format.same r r) ((tells r r).1 refl)))
-
-      -- a record is put into the line
-      pub change-sets :
-          (s : R)
-          → f r ≡ s ∷ []
-          → changed_at (with_record format s) place lines
-          ≡ spliced_at (becomes format f) place lines
-      change-sets s one =
-          let line = line_here lines place in
-          spliced-one (becomes format f) lines place line from-here (with_record format s)
-          (becomes-here ∙ ap (line_becomes format line r) one ∙ sets line s (format.same r s)
-          ∙ ap (λ l. l ∷ []) (sym (with-record line (format.read line.text) r s
-          (sym (record-here format lines place inside) ∙ found))))
 
 -- ---- A change that leaves names
 
@@ -165,16 +120,6 @@ pub none-named :
     → ⊥
 none-named format f r named none =
     let one : [] ≡ format.name r ∷ [] = sym (ap (map format.name) none) ∙ named in absurd cc
-
--- nor puts two in its place
-pub two-named :
-    {R : Type 0} (format : Format R) (f : R → List R) (r s t : R)
-    → map format.name (f r) ≡ format.name r ∷ []
-    → f r ≡ s ∷ t ∷ []
-    → ⊥
-two-named format f r s t named two =
-    let one : format.name s ∷ format.name t ∷ [] ≡ format.name r ∷ [] =
-    sym (ap (map format.name) two) ∙ named in absurd cc
 
 -- ---- The bytes of a line
 

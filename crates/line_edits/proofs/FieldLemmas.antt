@@ -1,7 +1,7 @@
 -- Claim: fields behind the first colon are the others (`behind-cut`, and `behind-whole` where there
 -- is no colon); and the third or fourth field of a record tells of it: the GID of a user
 -- (`gid-fourth`), the members of a group (`members-fourth`), and the administrators and members in
--- gshadow (`administrators-third`, `hashed-fourth`). Way: a line has one cut into fields, that of
+-- gshadow (`administrators-third`). Way: a line has one cut into fields, that of
 -- its record.
 use Rattle.std.proofs.Common.{◌≡◌, ℕ, zero, suc, ◌+◌, ◌-◌, List, [], ◌∷◌, slice_get, refl, sym, ◌∙◌, ap, arith}
 use Rattle.std.specs.Prelude.{Some, unwrap_or}
@@ -78,10 +78,3 @@ module _ (line : List ℕ) (group : GshadowRecord)
       let is = gshadow-is line group read in
       ap (λ fields. read_names (field_at 3 fields)) (cut_at-only colon line _ is.cut)
       ∙ names-found is.administrators group.administrators is.administrators_read
-
-  -- the fourth has the members
-  pub hashed-fourth : read_names (field_at 4 (fields_of line)) ≡ group.members
-  hashed-fourth =
-      let is = gshadow-is line group read in
-      ap (λ fields. read_names (field_at 4 fields)) (cut_at-only colon line _ is.cut)
-      ∙ names-found is.members group.members is.members_read

@@ -4,19 +4,14 @@ pub mod OpenLemmas
 pub mod PutLines
 pub mod EditLists
 pub mod TouchedRecords
-mod SingleEdits
 mod NamedTouches
 mod ToldPlaces
 pub mod LeftLemmas
-pub mod NamedLemmas
-pub mod NamesDone
 pub mod NamingLemmas
-pub mod PlacedRecords
 pub mod WrittenLines
 pub mod NameSets
 pub mod MarkLemmas
 pub mod ReachLemmas
 pub mod FieldLemmas
 mod JoinedTexts
-mod RewrittenLines
 pub mod NameRemovals

@@ -1,8 +1,7 @@
 -- Claim: a set with one more text has it, and of the others those that it had (`set-takes`); so it
 -- has the names of a list once each was added (`listed-more`). Its keys are these names,
--- of which no two are the same (`keys-listed`, `keys-apart`), so none stands in front of itself
--- (`distinct-before`). Way: by whether a text is the new one.
-use Rattle.std.proofs.Common.{◌≡◌, ◌∙◌, ℕ, ◌<◌, Bool, true, false, List, [], ◌∷◌, ◌++◌, length, map, take, get_or, zero, suc, refl, sym, ap, ap₂, arith}
+-- of which no two are the same (`keys-listed`, `keys-apart`). Way: by whether a text is the new one.
+use Rattle.std.proofs.Common.{◌≡◌, ◌∙◌, ℕ, Bool, true, false, List, [], ◌∷◌, ◌++◌, map, refl, sym, ap, ap₂}
 use Rattle.std.specs.Prelude.{◌||◌, bytes_eq}
 use Rattle.std.specs.Cmp.Lexicographic.{bytes_decides, nat_list_eq_equiv}
 use Rattle.std.specs.HashSet.{HashSet}
@@ -105,30 +104,3 @@ none-apart = tt
 -- and so is one name
 pub one-apart : (name : List ℕ) → IsDistinct bytes_eq (name ∷ [])
 one-apart name = IsDistinct-cons bytes_eq name [] tt none-apart
-
--- a name that differs from all differs from that at a place
-differs-at :
-    (name : List ℕ) (names : List (List ℕ)) (place : ℕ)
-    → AllByRecursion (λ other. bytes_eq name other ≡ false) names
-    → place < length names
-    → bytes_eq name (get_or names place []) ≡ false
-differs-at name [] place all inside = absurd (omega arith)
-differs-at name (other ∷ names) zero all inside = all.0
-differs-at name (other ∷ names) (suc place) all inside =
-    differs-at name names place all.1 (omega arith)
-
--- of names that differ none stands in front of its place
-pub distinct-before :
-    (names : List (List ℕ)) (place : ℕ)
-    → IsDistinct bytes_eq names
-    → place < length names
-    → is_listed (get_or names place []) (take place names) ≡ false
-distinct-before [] place apart inside = absurd (omega arith)
-distinct-before (name ∷ names) zero apart inside = refl
-distinct-before (name ∷ names) (suc place) apart inside =
-    let here = get_or names place [] in
-    let first : bytes_eq here name ≡ false =
-    nat_list_eq_equiv.symm here name
-    ∙ differs-at name names place (IsDistinct-head bytes_eq name names apart) (omega arith) in
-    ap (λ same. same || is_listed here (take place names)) first
-    ∙ distinct-before names place (IsDistinct-tail bytes_eq name names apart) (omega arith)

@@ -1,20 +1,15 @@
 -- Claim: the first record that is met among those of lines is that of the first line, or else the first
 -- behind it (`met-here`, `passed-here`); one whose name has no other isn't met (`met-single`), nor one
--- that isn't touched (`met-untouched`); without edits none is (`none-met`), nor where they touch no
--- record whose name has several (`none-touched`, place by place `multiple-next`); and a name is that of
--- a record (`record-named`). Way: by what the line reads as.
-use Rattle.std.proofs.Common.{◌≡◌, ℕ, suc, ◌+◌, ◌<◌, Bool, true, false, inl, inr, List, [], ◌∷◌, length, refl, sym, ◌∙◌, ap, subst, arith}
-use Rattle.std.specs.Prelude.{◌&&◌, ◌||◌, bytes_eq, Option, Some, None, option_map, find, if◌then◌else◌}
-use Rattle.std.specs.List.{cons_option, list_any}
-use Rattle.std.proofs.lemmas.Bool.{cases_Bool, cases_eq}
-use Rattle.std.proofs.lemmas.Slice.Eq.{bytes_eq-Decides}
+-- that isn't touched (`met-untouched`); without edits none is (`none-met`); and a name is that of a record
+-- (`record-named`). Way: by what the line reads as.
+use Rattle.std.proofs.Common.{◌≡◌, ℕ, suc, ◌<◌, Bool, true, false, List, [], ◌∷◌, length, refl, ◌∙◌, ap, arith}
+use Rattle.std.specs.Prelude.{◌&&◌, Option, Some, None, option_map, find, if◌then◌else◌}
+use Rattle.std.specs.List.{cons_option}
 use Rattle.acct_text.specs.Lines.{Line}
 use Rattle.account_model.specs.Format.{Format, records_of}
 use Rattle.account_model.specs.Edits.{Edit, first_multiple, is_multiple, touches}
-use Rattle.account_model.specs.Text.{is_listed}
 use Rattle.acct_tables.specs.TableLines.{record_at}
-use Rattle.line_edits.specs.Touching.{HoldsOfMultiple, HoldsOfMultipleAt, is_met, first_touched, met_in}
-use Rattle.line_edits.proofs.LeftLemmas.{neither}
+use Rattle.line_edits.specs.Touching.{is_met, first_touched, met_in}
 
 -- what was found is a record of this name
 pub record IsRecordOf {R : Type 0} (format : Format R) (found : Option R) (name : List ℕ)
@@ -123,24 +118,6 @@ module _ {R : Type 0} (format : Format R) (edits : List (Edit R)) where
 
 -- ---- Names without several records
 
--- a name that passes a test isn't among those of which none does
-pub passes-unlisted :
-    (passes : List ℕ → Bool) (name : List ℕ) (names : List (List ℕ))
-    → list_any passes names ≡ false
-    → passes name ≡ true
-    → is_listed name names ≡ false
-passes-unlisted passes name [] none is = refl
-passes-unlisted passes name (other ∷ names) none is =
-    let both = neither (passes other) (list_any passes names) none in
-    elim (cases_Bool (bytes_eq name other)) [
-      | inl same ↦
-          let equal : name ≡ other = (bytes_eq-Decides name other).0 same in
-          let both_ways : true ≡ false = sym is ∙ ap passes equal ∙ both.0 in absurd cc
-      | inr differs ↦
-          ap (λ same. same || is_listed name names) differs
-          ∙ passes-unlisted passes name names both.1 is
-    ]
-
 -- a record that isn't touched where its name has several isn't met
 unmet-if :
     (touched several : Bool)
@@ -170,29 +147,6 @@ none-found format test [] none = refl
 none-found format test (line ∷ rest) none =
     none-by test (format.read line.text) (records_of format rest) (none 0 (omega arith))
     (none-found format test rest (λ place inside. none (suc place) (omega arith)))
-
--- where the edits touch no record whose name has several, none is met
-pub none-touched :
-    {R : Type 0} (format : Format R) (edits : List (Edit R)) (lines : List Line)
-    → HoldsOfMultiple format lines (λ r. touches format edits r ≡ false)
-    → first_multiple format edits (records_of format lines) ≡ None
-none-touched format edits lines untouched =
-    let records = records_of format lines in
-    ap (option_map format.name)
-    (none-found format (is_met format edits records) lines
-    (λ place inside r found. unmet-if (touches format edits r) (is_multiple format records r)
-    (untouched place inside r found)))
-
--- what holds of the records at the places before one, and of that at it, holds before the next
-pub multiple-next :
-    {R : Type 0} (format : Format R) (lines : List Line) (P : R → Type 0) (place : ℕ)
-    → ((below : ℕ) → below < place → HoldsOfMultipleAt format lines P below)
-    → HoldsOfMultipleAt format lines P place
-    → (below : ℕ) → below < place + 1 → HoldsOfMultipleAt format lines P below
-multiple-next format lines P place before here below under = elim (cases_eq below place) [
-  | inl same ↦ subst (HoldsOfMultipleAt format lines P) (sym same) here
-  | inr apart ↦ before below (omega arith)
-]
 
 -- no edit touches a record
 pub none-met :

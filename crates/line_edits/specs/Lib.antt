@@ -13,7 +13,6 @@ pub mod HashChanges
 pub mod Memberships
 pub mod Naming
 pub mod SingleEdits
-pub mod KeptNames
 pub mod WrittenLines
 pub mod NameSets
 pub mod Reach

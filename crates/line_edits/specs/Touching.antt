@@ -1,11 +1,10 @@
 -- Which edit touches a record, and the first record that is touched among several of its name (passwd(5), shadow(5),
 -- group(5), gshadow(5)).
-use Rattle.std.specs.Prelude.{◌≡◌, ℕ, ◌<◌, Bool, true, false, ◌&&◌, List, [], ◌∷◌, length, Option, Some, None, nat_le, option_map, find, if◌then◌else◌}
+use Rattle.std.specs.Prelude.{◌≡◌, ℕ, Bool, false, ◌&&◌, List, [], ◌∷◌, Option, Some, None, nat_le, option_map, find, if◌then◌else◌}
 use Rattle.acct_text.specs.Lines.{Line}
 use Rattle.account_model.specs.Format.{Format, count_named, records_of}
-use Rattle.account_model.specs.Edits.{Edit, edited, touches, is_multiple}
+use Rattle.account_model.specs.Edits.{Edit, touches, is_multiple}
 use Rattle.account_model.specs.Text.{is_listed}
-use Rattle.acct_tables.specs.TableLines.{record_at}
 
 -- whether the edit touches a record of the old table, were it the only one
 abbrev pub touches_alone : {R : Type 0} → Format R → Edit R → R → Bool
@@ -41,18 +40,3 @@ met_in format edits whole text = elim (format.read text) [
 -- whether several records of the lines have the name
 abbrev pub has_several : {R : Type 0} → Format R → List Line → List ℕ → Bool
 has_several format lines name = nat_le 2 (count_named format name (records_of format lines))
-
--- P holds of the record at the place, where there is one of a name that several have
-abbrev pub HoldsOfMultipleAt :
-    {R : Type 0} → Format R → List Line → (R → Type 0) → ℕ → Type 0
-HoldsOfMultipleAt {R = R} format lines P place = (r : R) → record_at format lines place ≡ Some r
-    → is_multiple format (records_of format lines) r ≡ true → P r
-
--- P holds of each record of the lines whose name several have
-abbrev pub HoldsOfMultiple : {R : Type 0} → Format R → List Line → (R → Type 0) → Type 0
-HoldsOfMultiple format lines P =
-    (place : ℕ) → place < length lines → HoldsOfMultipleAt format lines P place
-
--- the lines after the edit where it is made, and as they are where it isn't
-abbrev pub edited_where : {R : Type 0} → Format R → Bool → List Line → Edit R → List Line
-edited_where format is_made lines edit = if is_made then edited format lines edit else lines

@@ -10,10 +10,10 @@ ghost use Rattle.line_edits.specs.Reach.{IsOpened};
 ghost use Rattle.line_edits.specs.SeenEdits.{seen_edits};
 ghost use Rattle.line_edits.specs.SingleEdits.{TouchesSingle};
 
+use crate::applied::edited_text;
 use crate::line_changes::changed_from;
 use crate::multiple::multiple_among;
 use crate::reach::{Opened, open_for};
-use crate::single::single_edited_text;
 use crate::{Edit, EditedRecord};
 use acct_text::Bytes;
 use std::alloc::{AllocError, Global};
@@ -62,7 +62,7 @@ fn edited_from<R: EditedRecord + Drop>(
 {
     match single_change(edits) {
         Some(change) => changed_from::<R>(alloc, file.text, file.part, change),
-        None => single_edited_text(alloc, file.text, edits),
+        None => edited_text(alloc, file.text, edits),
     }
 }
 

@@ -2,7 +2,7 @@
 ghost use Rattle.std.specs.Prelude.{◌≡◌, true, List, [], ◌∷◌, None, IfOk, IfSome};
 ghost use Rattle.account_model.specs.Written.{IsWritten};
 ghost use Rattle.acct_tables.specs.Marks.{marks_in};
-ghost use Rattle.line_edits.specs.Naming.{AreMarksOf, KeepsNames, Leaves, Removes, TouchesOnly, names_in};
+ghost use Rattle.line_edits.specs.Naming.{AreMarksOf, Leaves, TouchesOnly, names_in};
 ghost use Rattle.line_edits.specs.Rewriting.{IsRewritten};
 ghost use Rattle.line_edits.specs.SeenEdits.{records_in};
 
@@ -87,10 +87,6 @@ pub trait EditedRecord: TableRecord {
         ensures { IfSome result (λ names.
             TouchesOnly Self.format (becomes change.now) (names_in names)) };
 
-    /// Whether the change surely leaves one record for each, of its name.
-    fn keeps_names(change: &Self::Change) -> bool
-        ensures { result ≡ true → KeepsNames Self.format (becomes change.now) };
-
     /// Whether both changes surely are the same.
     fn are_same(one: &Self::Change, other: &Self::Change) -> bool
         ensures { result ≡ true → one.now ≡ other.now };
@@ -98,10 +94,6 @@ pub trait EditedRecord: TableRecord {
     /// Whether the change surely leaves the record, by what can be seen without memory.
     fn is_left(&self, change: &Self::Change) -> bool
         ensures { result ≡ true → becomes change.now self.now ≡ self.now ∷ [] };
-
-    /// The name of the records that go by the change, where it does nothing else; none at others.
-    fn removed(change: &Self::Change) -> Option<&[u8]>
-        ensures { IfSome result (λ name. Removes Self.format (becomes change.now) name.now) };
 
     // an empty line is no record
     ghost no_blank: { Self.TableRecord.format.read [] ≡ None };

@@ -21,7 +21,7 @@ pub(crate) fn set_given(field: &mut Bytes, new: &Option<Bytes>) -> Result<(), Al
 }
 
 /// Whether a name field that gets this text, if any is given, leaves the name.
-pub(crate) fn leaves_name(new: &Option<Bytes>, name: &Bytes) -> bool
+pub fn leaves_name(new: &Option<Bytes>, name: &Bytes) -> bool
     ensures { result ≡ leaves_name name.now new.now }
 {
     match new {

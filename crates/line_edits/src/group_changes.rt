@@ -5,7 +5,6 @@ ghost use Rattle.account_model.specs.Text.{is_listed};
 ghost use Rattle.account_model.specs.declared.records.GroupRecord.{GroupRecord};
 ghost use Rattle.acct_tables.specs.Marks.{IsWithoutAll, marks_in};
 ghost use Rattle.line_edits.specs.GroupChanges.{group_after, group_becomes};
-ghost use Rattle.line_edits.specs.KeptNames.{keeps_group_name};
 ghost use Rattle.line_edits.specs.Memberships.{group_by};
 ghost use Rattle.line_edits.specs.Naming.{TouchesOnly, names_in};
 ghost use Rattle.line_edits.specs.declared.group_changes.GroupChange.TheVariants.{All};
@@ -105,14 +104,6 @@ impl EditedRecord for GroupRecord {
         }
     }
 
-    fn keeps_names(change: &GroupChange) -> bool {
-        match change {
-            GroupChange::Named(_, act) => keeps_name(act),
-            GroupChange::All(act) => keeps_name(act),
-            GroupChange::Remove(_) => false,
-        }
-    }
-
     fn are_same(_one: &GroupChange, _other: &GroupChange) -> bool {
         false
     }
@@ -121,24 +112,7 @@ impl EditedRecord for GroupRecord {
         false
     }
 
-    fn removed(change: &GroupChange) -> Option<&[u8]> {
-        match change {
-            GroupChange::Remove(name) => Some(name.as_slice()),
-            _ => None,
-        }
-    }
-
     ghost no_blank = { refl };
-}
-
-// Whether the act leaves the name of the group.
-fn keeps_name(act: &GroupAct) -> bool
-    ensures { result ≡ keeps_group_name act.now }
-{
-    match act {
-        GroupAct::Rename(_) => false,
-        _ => true,
-    }
 }
 
 // The names of all groups that the act may touch; none where it may touch others.

@@ -5,7 +5,6 @@ ghost use Rattle.account_model.specs.Records.{gshadow_format};
 ghost use Rattle.account_model.specs.Text.{is_listed};
 ghost use Rattle.acct_tables.specs.Marks.{IsWithoutAll, marks_in};
 ghost use Rattle.line_edits.specs.GshadowChanges.{gshadow_after, gshadow_becomes, without_user};
-ghost use Rattle.line_edits.specs.KeptNames.{keeps_gshadow_name};
 ghost use Rattle.line_edits.specs.Memberships.{gshadow_by};
 ghost use Rattle.line_edits.specs.Naming.{TouchesOnly, names_in};
 ghost use Rattle.line_edits.specs.declared.gshadow_changes.GshadowChange.TheVariants.{All};
@@ -107,14 +106,6 @@ impl EditedRecord for GshadowRecord {
         }
     }
 
-    fn keeps_names(change: &GshadowChange) -> bool {
-        match change {
-            GshadowChange::Named(_, act) => keeps_name(act),
-            GshadowChange::All(act) => keeps_name(act),
-            GshadowChange::Remove(_) => false,
-        }
-    }
-
     fn are_same(_one: &GshadowChange, _other: &GshadowChange) -> bool {
         false
     }
@@ -123,24 +114,7 @@ impl EditedRecord for GshadowRecord {
         false
     }
 
-    fn removed(change: &GshadowChange) -> Option<&[u8]> {
-        match change {
-            GshadowChange::Remove(name) => Some(name.as_slice()),
-            _ => None,
-        }
-    }
-
     ghost no_blank = { refl };
-}
-
-// Whether the act leaves the name of the group.
-fn keeps_name(act: &GshadowAct) -> bool
-    ensures { result ≡ keeps_gshadow_name act.now }
-{
-    match act {
-        GshadowAct::Rename(_) => false,
-        _ => true,
-    }
 }
 
 // The names of all groups that the act may touch; none where it may touch others.

@@ -214,7 +214,7 @@ fn leave<R: EditedRecord>(edits: &[Edit<R, R::Change>], line: &[u8]) -> bool
 }
 
 /// Whether the edit surely leaves the record that the line is, if it is one.
-pub(crate) fn leaves<R: EditedRecord>(edit: &Edit<R, R::Change>, line: &[u8]) -> bool
+pub fn leaves<R: EditedRecord>(edit: &Edit<R, R::Change>, line: &[u8]) -> bool
     ensures { result ≡ true → (r : R) → R.format.read line.now ≡ Some r
         → LeavesTo R.format (seen_edit R.becomes edit.now) r }
 {

@@ -3,7 +3,6 @@ ghost use Rattle.std.specs.Prelude.{◌≡◌, ◌==◌, ℕ, true, List, Some, 
 ghost use Rattle.account_model.specs.Records.{passwd_format};
 ghost use Rattle.account_model.specs.declared.records.PasswdRecord.{PasswdRecord};
 ghost use Rattle.line_edits.specs.PasswdChanges.{passwd_after, with_user_fields};
-ghost use Rattle.line_edits.specs.KeptNames.{keeps_user_name};
 
 use crate::fields::{fourth_field, has_other_name, leaves_name, set_given};
 use crate::{Becoming, ChangedNames, EditedRecord, HashChange, PrimaryGroup, Rewritten};
@@ -120,14 +119,6 @@ impl EditedRecord for PasswdRecord {
         }
     }
 
-    fn keeps_names(change: &PasswdChange) -> bool {
-        match change {
-            PasswdChange::Named(name, act) => keeps_name(name, act),
-            PasswdChange::OfGroup(_, act) => keeps_all_names(act),
-            PasswdChange::Remove(_) => false,
-        }
-    }
-
     fn are_same(one: &PasswdChange, other: &PasswdChange) -> bool {
         match (one, other) {
             (PasswdChange::Named(name, act), PasswdChange::Named(same, same_act)) => {
@@ -142,13 +133,6 @@ impl EditedRecord for PasswdRecord {
             PasswdChange::Named(_, act) => is_done(act, self),
             PasswdChange::OfGroup(_, act) => is_done(act, self),
             PasswdChange::Remove(_) => false,
-        }
-    }
-
-    fn removed(change: &PasswdChange) -> Option<&[u8]> {
-        match change {
-            PasswdChange::Remove(name) => Some(name.as_slice()),
-            _ => None,
         }
     }
 
@@ -187,26 +171,6 @@ fn is_done(act: &PasswdAct, user: &PasswdRecord) -> bool
         PasswdAct::SetGid(gid) => user.gid == *gid,
         PasswdAct::ChangePassword(change) => change.leaves(user.password.as_slice()),
         PasswdAct::SetFields(_) => false,
-    }
-}
-
-// Whether the act leaves this name of a user.
-fn keeps_name(name: &Bytes, act: &PasswdAct) -> bool
-    ensures { result ≡ keeps_user_name name.now act.now }
-{
-    match act {
-        PasswdAct::SetFields(fields) => leaves_name(&fields.name, name),
-        _ => true,
-    }
-}
-
-// Whether the act leaves the names of all users.
-fn keeps_all_names(act: &PasswdAct) -> bool
-    ensures { result ≡ true → (name : List ℕ) → keeps_user_name name act.now ≡ true }
-{
-    match act {
-        PasswdAct::SetFields(fields) => fields.name.is_none(),
-        _ => true,
     }
 }
 

@@ -2,7 +2,6 @@
 ghost use Rattle.std.specs.Prelude.{◌≡◌, true, None, Some, IfOk, OnOk, option_map, unwrap_or};
 ghost use Rattle.acct_lines.specs.DaysValues.{days_held};
 ghost use Rattle.line_edits.specs.ShadowChanges.{given_days, shadow_after, with_shadow_fields};
-ghost use Rattle.line_edits.specs.KeptNames.{keeps_shadow_name};
 
 use crate::fields::{has_other_name, leaves_name, set_given};
 use crate::{Becoming, ChangedNames, EditedRecord, HashChange, Rewritten};
@@ -159,13 +158,6 @@ impl EditedRecord for ShadowRecord {
         }
     }
 
-    fn keeps_names(change: &ShadowChange) -> bool {
-        match change {
-            ShadowChange::Named(name, act) => keeps_name(name, act),
-            ShadowChange::Remove(_) => false,
-        }
-    }
-
     fn are_same(one: &ShadowChange, other: &ShadowChange) -> bool {
         match (one, other) {
             (ShadowChange::Named(name, act), ShadowChange::Named(same, same_act)) => {
@@ -179,13 +171,6 @@ impl EditedRecord for ShadowRecord {
         match change {
             ShadowChange::Named(_, act) => is_done(act, self),
             ShadowChange::Remove(_) => false,
-        }
-    }
-
-    fn removed(change: &ShadowChange) -> Option<&[u8]> {
-        match change {
-            ShadowChange::Remove(name) => Some(name.as_slice()),
-            ShadowChange::Named(..) => None,
         }
     }
 
@@ -222,16 +207,6 @@ fn is_day(field: Option<u32>, day: u32) -> bool
     match field {
         Some(held) => held == day,
         None => false,
-    }
-}
-
-// Whether the act leaves this name of a user.
-fn keeps_name(name: &Bytes, act: &ShadowAct) -> bool
-    ensures { result ≡ keeps_shadow_name name.now act.now }
-{
-    match act {
-        ShadowAct::SetFields(fields) => leaves_name(&fields.name, name),
-        _ => true,
     }
 }
 

@@ -99,23 +99,12 @@ impl EditedRecord for SubidRecord {
         }
     }
 
-    fn keeps_names(_change: &SubidChange) -> bool {
-        false
-    }
-
     fn are_same(_one: &SubidChange, _other: &SubidChange) -> bool {
         false
     }
 
     fn is_left(&self, _change: &SubidChange) -> bool {
         false
-    }
-
-    fn removed(change: &SubidChange) -> Option<&[u8]> {
-        match change {
-            SubidChange::Remove(user, uid) if uid.is_none() => Some(user.as_slice()),
-            _ => None,
-        }
     }
 
     ghost no_blank = { refl };

@@ -1,18 +1,14 @@
--- Claims: of the keys of a user, a group and a record of gshadow after an act each is a key of before, or
--- one that the act brings (`user-kept`, `group-kept`, `gshadow-kept`). Way: act by act, a list gets no
--- names but those.
-use Rattle.std.proofs.Common.{◌≡◌, ◌∙◌, ℕ, Bool, true, false, List, [], ◌∷◌, ◌++◌, sym}
-use Rattle.std.specs.Prelude.{◌==◌, Option, Some, None, if◌then◌else◌, unwrap_or}
-use Rattle.std.specs.List.{cons_option}
+-- Claims: of the keys of a group and of a record of gshadow after an act each is a key of before, or one that
+-- the act gives (`group-kept`, `gshadow-kept`). Way: act by act, a list gets no names but those.
+use Rattle.std.proofs.Common.{◌≡◌, ◌∙◌, ℕ, Bool, true, false, List, [], ◌∷◌, ◌++◌, sym, ap}
+use Rattle.std.specs.Prelude.{◌==◌, ◌||◌, if◌then◌else◌}
 use Rattle.std.proofs.lemmas.List.Folds.{list_any-append}
 use Rattle.account_model.specs.declared.records.GroupRecord.{GroupRecord}
 use Rattle.account_model.specs.declared.records.GshadowRecord.{GshadowRecord}
-use Rattle.account_model.specs.declared.records.PasswdRecord.{PasswdRecord}
 use Rattle.account_model.specs.Text.{is_listed}
 use Rattle.account_model.specs.Members.{renamed_in, with_name, without_name}
 use Rattle.line_edits.specs.GroupChanges.{group_after}
 use Rattle.line_edits.specs.GshadowChanges.{gshadow_after}
-use Rattle.line_edits.specs.PasswdChanges.{passwd_after}
 use Rattle.line_edits.specs.Memberships.{members_by, members_with}
 use Rattle.line_edits.specs.declared.group_changes.GroupAct.{GroupAct}
 use Rattle.line_edits.specs.declared.group_changes.GroupAct.TheVariants.{SetGid as GroupSetGid, Rename as GroupRename, SetPassword as GroupSetPassword, AddMember as GroupAddMember, RemoveMember as GroupRemoveMember, SetMembers as GroupSetMembers, SetMembership as GroupSetMembership}
@@ -21,11 +17,9 @@ use Rattle.line_edits.specs.declared.gshadow_changes.GshadowAct.TheVariants.{Ren
 use Rattle.line_edits.specs.declared.memberships.Membership.{Membership}
 use Rattle.line_edits.specs.declared.memberships.UserGroups.{UserGroups}
 use Rattle.line_edits.specs.declared.memberships.UserGroups.TheVariants.{Also, Kept, Only}
-use Rattle.line_edits.specs.declared.passwd_changes.PasswdAct.{PasswdAct}
-use Rattle.line_edits.specs.declared.passwd_changes.PasswdAct.TheVariants.{ChangePassword, SetFields, SetGid, SetPassword}
 use Rattle.line_edits.proofs.LeftLemmas.{neither}
 use Rattle.record_keys.specs.KeyPlaces.{has_key}
-use Rattle.record_keys.specs.Keys.{either_name, gid_given, group_keys, gshadow_keys, joining_group, joining_gshadow, name_keys, user_keys}
+use Rattle.record_keys.specs.Keys.{either_name, group_given, group_keys, gshadow_given, gshadow_keys, name_keys, own_key}
 use Rattle.record_keys.proofs.MemberKeys.{PassesOnly, either-passes, keys-of-names, is_key_of, renamed-passed, with-passed, without-passed}
 
 -- ---- Lists of names
@@ -81,25 +75,26 @@ module _ (key : ℕ) where
       → P
   none-has keys none has = let both : true ≡ false = sym has ∙ none in absurd cc
 
-  -- a given GID is one that is brought
-  given-kept :
-      (given : Option ℕ) (gid : ℕ)
-      → has_key key (cons_option given []) ≡ false
-      → has_key key (unwrap_or given gid ∷ []) ≡ true
-      → has_key key (gid ∷ []) ≡ true
-  given-kept None gid none has = has
-  given-kept (Some new) gid none has = none-has (new ∷ []) none has
+  -- the other keys change beside that of the name
+  behind-own :
+      (name : List ℕ) (old new : List ℕ)
+      → (has_key key new ≡ true → has_key key old ≡ true)
+      → has_key key (own_key name ∷ new) ≡ true
+      → has_key key (own_key name ∷ old) ≡ true
+  behind-own name old new only has =
+      let is_own = own_key name == key in
+      either-passes is_own (has_key key new) is_own (has_key key old) (λ is. is) only has
 
-  -- a user gets no primary group but that which an act gives
-  pub user-kept :
-      (act : PasswdAct) (r : PasswdRecord)
-      → has_key key (gid_given act) ≡ false
-      → has_key key (user_keys (passwd_after act r)) ≡ true
-      → has_key key (user_keys r) ≡ true
-  user-kept (SetPassword password) r none has = has
-  user-kept (SetGid gid) r none has = none-has (gid ∷ []) none has
-  user-kept (ChangePassword change) r none has = has
-  user-kept (SetFields fields) r none has = given-kept fields.gid r.gid none has
+  -- by a new name a group has no other key than before but that
+  renamed-kept :
+      (name new : List ℕ) (keys : List ℕ)
+      → has_key key (own_key new ∷ []) ≡ false
+      → has_key key (own_key new ∷ keys) ≡ true
+      → has_key key (own_key name ∷ keys) ≡ true
+  renamed-kept name new keys none has =
+      either-passes (own_key new == key) (has_key key keys) (own_key name == key)
+      (has_key key keys) (λ is. none-has (own_key new ∷ []) none (ap (λ test. test || false) is))
+      (λ has. has) has
 
   -- one name alone
   one-none :
@@ -124,65 +119,70 @@ module _ (key : ℕ) where
   -- a group gets no members but those that an act brings
   pub group-kept :
       (act : GroupAct) (r : GroupRecord)
-      → has_key key (name_keys (joining_group act)) ≡ false
+      → has_key key (group_given act) ≡ false
       → has_key key (group_keys (group_after act r)) ≡ true
       → has_key key (group_keys r) ≡ true
   group-kept (GroupSetGid gid) r none has = has
-  group-kept (GroupRename name) r none has = has
+  group-kept (GroupRename name) r none has = renamed-kept r.name name (name_keys r.members) none has
   group-kept (GroupSetPassword password) r none has = has
   group-kept (GroupAddMember user) r none has =
-      keys-passed key r.members (with_name user r.members)
-      (with-passed (is_key_of key) user r.members (one-none user none)) has
+      behind-own r.name (name_keys r.members) (name_keys (with_name user r.members))
+      (keys-passed key r.members (with_name user r.members)
+      (with-passed (is_key_of key) user r.members (one-none user none))) has
   group-kept (GroupRemoveMember user) r none has =
-      keys-passed key r.members (without_name user r.members)
-      (without-passed (is_key_of key) user r.members) has
-  group-kept (GroupSetMembers members) r none has = none-has (name_keys members) none has
+      behind-own r.name (name_keys r.members) (name_keys (without_name user r.members))
+      (keys-passed key r.members (without_name user r.members)
+      (without-passed (is_key_of key) user r.members)) has
+  group-kept (GroupSetMembers members) r none has =
+      behind-own r.name (name_keys r.members) (name_keys members)
+      (none-has (name_keys members) none) has
   group-kept (GroupSetMembership membership) r none has =
-      either-kept membership r.name r.members none has
+      behind-own r.name (name_keys r.members) (name_keys (members_by membership r.name r.members))
+      (either-kept membership r.name r.members none) has
 
-  -- two lists get none, if neither does
+  -- two lists get none behind the key of the name, if neither does
   pair-kept :
-      (first behind new more : List (List ℕ))
-      → (has_key key (name_keys new) ≡ true
-      → has_key key (name_keys first) ≡ true)
-      → (has_key key (name_keys more) ≡ true
-      → has_key key (name_keys behind) ≡ true)
-      → has_key key (name_keys new ++ name_keys more) ≡ true
-      → has_key key (name_keys first ++ name_keys behind) ≡ true
-  pair-kept first behind new more one other has =
+      (name : List ℕ) (first behind new more : List (List ℕ))
+      → (has_key key (name_keys new) ≡ true → has_key key (name_keys first) ≡ true)
+      → (has_key key (name_keys more) ≡ true → has_key key (name_keys behind) ≡ true)
+      → has_key key (own_key name ∷ name_keys new ++ name_keys more) ≡ true
+      → has_key key (own_key name ∷ name_keys first ++ name_keys behind) ≡ true
+  pair-kept name first behind new more one other =
       let test : ℕ → Bool = λ other. other == key in
-      list_any-append test (name_keys first) (name_keys behind)
+      behind-own name (name_keys first ++ name_keys behind) (name_keys new ++ name_keys more)
+      (λ has. list_any-append test (name_keys first) (name_keys behind)
       ∙ either-passes (has_key key (name_keys new))
       (has_key key (name_keys more)) (has_key key (name_keys first))
       (has_key key (name_keys behind)) one other
-      (sym (list_any-append test (name_keys new) (name_keys more)) ∙ has)
+      (sym (list_any-append test (name_keys new) (name_keys more)) ∙ has))
 
   -- a record of gshadow gets no administrators and members but those that an act brings
   pub gshadow-kept :
       (act : GshadowAct) (r : GshadowRecord)
-      → has_key key (name_keys (joining_gshadow act)) ≡ false
+      → has_key key (gshadow_given act) ≡ false
       → has_key key (gshadow_keys (gshadow_after act r)) ≡ true
       → has_key key (gshadow_keys r) ≡ true
-  gshadow-kept (GshadowRename name) r none has = has
+  gshadow-kept (GshadowRename name) r none has =
+      renamed-kept r.name name (name_keys r.administrators ++ name_keys r.members) none has
   gshadow-kept (GshadowSetPassword password) r none has = has
   gshadow-kept (GshadowSetAdministrators names) r none has =
-      pair-kept r.administrators r.members names r.members (none-has (name_keys names) none)
+      pair-kept r.name r.administrators r.members names r.members (none-has (name_keys names) none)
       (λ has. has) has
   gshadow-kept (GshadowAddMember user) r none has =
-      pair-kept r.administrators r.members r.administrators (with_name user r.members)
+      pair-kept r.name r.administrators r.members r.administrators (with_name user r.members)
       (λ has. has)
       (keys-passed key r.members (with_name user r.members)
       (with-passed (is_key_of key) user r.members (one-none user none))) has
   gshadow-kept (GshadowRemoveMember user) r none has =
-      pair-kept r.administrators r.members r.administrators (without_name user r.members)
+      pair-kept r.name r.administrators r.members r.administrators (without_name user r.members)
       (λ has. has)
       (keys-passed key r.members (without_name user r.members)
       (without-passed (is_key_of key) user r.members)) has
   gshadow-kept (GshadowSetMembers members) r none has =
-      pair-kept r.administrators r.members r.administrators members (λ has. has)
+      pair-kept r.name r.administrators r.members r.administrators members (λ has. has)
       (none-has (name_keys members) none) has
   gshadow-kept (GshadowRemoveUser user) r none has =
-      pair-kept r.administrators r.members (without_name user r.administrators)
+      pair-kept r.name r.administrators r.members (without_name user r.administrators)
       (without_name user r.members)
       (keys-passed key r.administrators (without_name user r.administrators)
       (without-passed (is_key_of key) user r.administrators))
@@ -193,7 +193,7 @@ module _ (key : ℕ) where
       (has_key key (name_keys (membership.new_name ∷ []))) none in
       let user = membership.user in
       let new_name = membership.new_name in
-      pair-kept r.administrators r.members (renamed_in user new_name r.administrators)
+      pair-kept r.name r.administrators r.members (renamed_in user new_name r.administrators)
       (members_by membership r.name r.members)
       (keys-passed key r.administrators (renamed_in user new_name r.administrators)
       (renamed-passed (is_key_of key) user new_name r.administrators

@@ -1,9 +1,10 @@
 -- Claims: a change that lets a user leave all groups, or renames it in them, needs its key
 -- (`group-leaver`, `gshadow-leaver`). Way: a record without the key of a name doesn't list the name, and
 -- stays.
-use Rattle.std.proofs.Common.{subst, ◌≡◌, ◌∙◌, ℕ, false, List, [], ◌∷◌, sym, ap}
+use Rattle.std.proofs.Common.{subst, ◌≡◌, ◌∙◌, ℕ, false, List, [], ◌∷◌, ◌++◌, sym, ap}
 use Rattle.std.specs.Prelude.{◌==◌, IfSome, Option, Some, None}
 use Rattle.std.proofs.lemmas.List.Folds.{list_any-append}
+use Rattle.account_model.specs.declared.records.GroupRecord.{GroupRecord}
 use Rattle.account_model.specs.declared.records.GshadowRecord.{GshadowRecord}
 use Rattle.account_model.specs.Text.{is_listed}
 use Rattle.account_model.specs.Members.{without_name}
@@ -19,16 +20,25 @@ use Rattle.line_edits.specs.declared.gshadow_changes.GshadowChange.TheVariants.{
 use Rattle.line_edits.specs.declared.memberships.Membership.{Membership}
 use Rattle.line_edits.proofs.LeftLemmas.{left-group, left-gshadow, neither, without-unlisted}
 use Rattle.record_keys.specs.KeyPlaces.{has_key}
-use Rattle.record_keys.specs.Keys.{IsGroupLeaver, IsGshadowLeaver, IsLeaver, Needs, group_keys, gshadow_keys, name_keys}
+use Rattle.record_keys.specs.Keys.{IsGroupLeaver, IsGshadowLeaver, IsLeaver, Needs, group_keys, gshadow_keys, name_keys, own_key}
 use Rattle.record_keys.proofs.MemberKeys.{keyless-unlisted}
 
 module _ (user : List ℕ) where
+  -- the user isn't in the list
+  not-in :
+      (r : GroupRecord)
+      → has_key (name_hash user) (group_keys r) ≡ false
+      → is_listed user r.members ≡ false
+  not-in r none =
+      keyless-unlisted user r.members (neither (own_key r.name == name_hash user)
+      (has_key (name_hash user) (name_keys r.members)) none).1
+
   -- a user leaves all groups
   leaves-group :
       Needs group_keys (group_becomes (AllGroups (GroupRemoveMember user))) (name_hash user)
   leaves-group = λ r none.
       ap (λ members. record r { members = members } ∷ [])
-      (without-unlisted user r.members (keyless-unlisted user r.members none))
+      (without-unlisted user r.members (not-in r none))
 
   -- the user is in neither list
   in-neither :
@@ -36,10 +46,12 @@ module _ (user : List ℕ) where
       → has_key (name_hash user) (gshadow_keys r) ≡ false
       → (is_listed user r.administrators ≡ false) × (is_listed user r.members ≡ false)
   in-neither r none =
+      let lists = neither (own_key r.name == name_hash user)
+      (has_key (name_hash user) (name_keys r.administrators ++ name_keys r.members)) none in
       let both = neither (has_key (name_hash user) (name_keys r.administrators))
       (has_key (name_hash user) (name_keys r.members))
       (sym (list_any-append (λ other. other == name_hash user) (name_keys r.administrators)
-      (name_keys r.members)) ∙ none) in
+      (name_keys r.members)) ∙ lists.1) in
       (keyless-unlisted user r.administrators both.0, keyless-unlisted user r.members both.1)
 
   -- and both lists of all records of gshadow
@@ -61,8 +73,7 @@ leaver-group :
     → Needs group_keys (group_becomes (AllGroups (GroupSetMembership membership))) key
 leaver-group membership key leaver = λ r none.
     ap (λ group. group ∷ []) (left-group membership r (leaver.joins_none r.name)
-    (keyless-unlisted membership.user r.members
-    (ap (λ key. has_key key (group_keys r)) (sym leaver.user) ∙ none)))
+    (not-in membership.user r (ap (λ key. has_key key (group_keys r)) (sym leaver.user) ∙ none)))
 
 -- and in gshadow
 leaver-gshadow :

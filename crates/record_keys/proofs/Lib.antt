@@ -4,5 +4,5 @@ pub mod MemberKeys
 pub mod ActKeys
 pub mod ChangeKeys
 pub mod LeaverKeys
+pub mod OwnKeys
 pub mod FoundPlaces
-pub mod NewNames

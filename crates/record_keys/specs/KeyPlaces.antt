@@ -1,6 +1,6 @@
--- Where records with a key stand in a table, by slots into which keys fall (passwd(5), group(5),
--- gshadow(5)). Places count the lines from 0. `told` is what an index tells: for a key the places
--- where records may have it; none where any place may.
+-- Where records with a key stand in a table, by slots into which keys fall (passwd(5), shadow(5),
+-- group(5), gshadow(5), subuid(5), subgid(5)). A place is a number by which the caller knows a line.
+-- `told` is what an index tells: for a key the places where records may have it; none where any place may.
 use Rattle.std.specs.Prelude.{◌≡◌, ℕ, ◌+◌, ◌%◌, ◌<◌, ◌≤◌, ◌==◌, AllPairs, Bool, true, false, List, [], ◌∷◌, get_or, length, IfSome, Option, None, Some, ⊤, if◌then◌else◌}
 use Rattle.std.specs.List.{list_any}
 use Rattle.account_model.specs.Ids.{is_used}
@@ -36,11 +36,11 @@ pub record Notes (keys : List ℕ) (spot : Spot) (before after : ℕ → Option 
 abbrev pub IsOfNone : (ℕ → Option (List ℕ)) → Type 0
 IsOfNone told = (key : ℕ) → told key ≡ Some []
 
--- these are the places that are told of the key, from the last to the first
+-- these are the places that are told of the key, from the first to the last
 pub record ArePlacesOf (told : ℕ → Option (List ℕ)) (key : ℕ) (places : List ℕ) : Type 0 where
   pub all : (place : ℕ) → MayBeAt told key place → is_used places place ≡ true
   pub only : (place : ℕ) → is_used places place ≡ true → MayBeAt told key place
-  pub descending : AllPairs (λ earlier later. later < earlier) places
+  pub ascending : AllPairs (λ earlier later. earlier < later) places
 
 -- ---- Slots and lists of places
 

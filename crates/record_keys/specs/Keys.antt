@@ -1,22 +1,18 @@
 -- The keys of records, by which an index tells where they are, and what changes do to them (passwd(5),
--- shadow(5), group(5), gshadow(5)).
-use Rattle.std.specs.Prelude.{◌≡◌, ℕ, true, false, List, [], ◌∷◌, ◌++◌, length, map, Option, None, Some, if◌then◌else◌}
+-- shadow(5), group(5), gshadow(5), subuid(5), subgid(5)). The first key of each record is that of its own name.
+use Rattle.std.specs.Prelude.{◌≡◌, ℕ, ◌+◌, ◌%◌, ◌^◌, ◌||◌, Contains, true, false, List, [], ◌∷◌, ◌++◌, map, Option, None, Some}
 use Rattle.std.specs.List.{cons_option}
-use Rattle.acct_text.specs.Lines.{Line}
 use Rattle.account_model.specs.declared.records.GroupRecord.{GroupRecord}
 use Rattle.account_model.specs.declared.records.GshadowRecord.{GshadowRecord}
 use Rattle.account_model.specs.declared.records.PasswdRecord.{PasswdRecord}
 use Rattle.account_model.specs.declared.records.ShadowRecord.{ShadowRecord}
 use Rattle.account_model.specs.declared.records.SubidRecord.{SubidRecord}
-use Rattle.account_model.specs.Edits.{Become}
-use Rattle.account_model.specs.Format.{Format, is_named}
-use Rattle.account_model.specs.RecordEdits.{IsWrittenEdit}
+use Rattle.account_model.specs.Format.{Format}
 use Rattle.acct_tables.specs.NameHashes.{name_hash}
-use Rattle.acct_tables.specs.TableLines.{record_at}
 use Rattle.line_edits.specs.declared.group_changes.GroupAct.{GroupAct}
-use Rattle.line_edits.specs.declared.group_changes.GroupAct.TheVariants.{AddMember as GroupAddMember, RemoveMember as GroupRemoveMember, SetMembers as GroupSetMembers, SetMembership as GroupSetMembership}
+use Rattle.line_edits.specs.declared.group_changes.GroupAct.TheVariants.{AddMember as GroupAddMember, Rename as GroupRename, RemoveMember as GroupRemoveMember, SetMembers as GroupSetMembers, SetMembership as GroupSetMembership}
 use Rattle.line_edits.specs.declared.gshadow_changes.GshadowAct.{GshadowAct}
-use Rattle.line_edits.specs.declared.gshadow_changes.GshadowAct.TheVariants.{SetAdministrators as GshadowSetAdministrators, AddMember as GshadowAddMember, SetMembers as GshadowSetMembers, RemoveUser as GshadowRemoveUser, SetMembership as GshadowSetMembership}
+use Rattle.line_edits.specs.declared.gshadow_changes.GshadowAct.TheVariants.{Rename as GshadowRename, SetAdministrators as GshadowSetAdministrators, AddMember as GshadowAddMember, SetMembers as GshadowSetMembers, RemoveUser as GshadowRemoveUser, SetMembership as GshadowSetMembership}
 use Rattle.line_edits.specs.declared.memberships.Membership.{Membership}
 use Rattle.line_edits.specs.declared.passwd_changes.PasswdAct.{PasswdAct}
 use Rattle.line_edits.specs.declared.passwd_changes.PasswdAct.TheVariants.{SetGid, SetFields}
@@ -26,71 +22,88 @@ use Rattle.line_edits.specs.declared.gshadow_changes.GshadowChange.{GshadowChang
 use Rattle.line_edits.specs.declared.gshadow_changes.GshadowChange.TheVariants.{All as AllGshadows, Named as NamedGshadow, Remove as RemoveGshadow}
 use Rattle.line_edits.specs.declared.passwd_changes.PasswdChange.{PasswdChange}
 use Rattle.line_edits.specs.declared.passwd_changes.PasswdChange.TheVariants.{Named as NamedUser, OfGroup, Remove as RemoveUser}
+use Rattle.line_edits.specs.declared.shadow_changes.ShadowAct.{ShadowAct}
+use Rattle.line_edits.specs.declared.shadow_changes.ShadowAct.TheVariants.{SetFields as ShadowSetFields}
 use Rattle.line_edits.specs.declared.shadow_changes.ShadowChange.{ShadowChange}
+use Rattle.line_edits.specs.declared.shadow_changes.ShadowChange.TheVariants.{Named as NamedShadow, Remove as RemoveShadow}
 use Rattle.line_edits.specs.declared.subid_changes.SubidChange.{SubidChange}
 use Rattle.line_edits.specs.declared.subid_changes.SubidChange.TheVariants.{Cut as CutRanges, Remove as RemoveOwner, Rename as RenameOwner}
 use Rattle.line_edits.specs.Memberships.{joins}
-use Rattle.record_keys.specs.KeyPlaces.{MayBeAt, has_key}
+use Rattle.record_keys.specs.KeyPlaces.{has_key}
 
 -- ---- Whose keys they are
 
--- those of names: their hashes
+-- that of a record by its own name: another one than that of the same name in a list
+abbrev pub own_key : List ℕ → ℕ
+own_key name = (name_hash name + 1) % 2 ^ 64
+
+-- those of names in a list: their hashes
 abbrev pub name_keys : List (List ℕ) → List ℕ
 name_keys names = map name_hash names
 
--- that of a user: the GID of the primary group
+-- those of a user: its own, and the GID of the primary group
 abbrev pub user_keys : PasswdRecord → List ℕ
-user_keys user = user.gid ∷ []
+user_keys user = own_key user.name ∷ user.gid ∷ []
 
--- a record of shadow has none
+-- that of a record of shadow
 abbrev pub shadow_keys : ShadowRecord → List ℕ
-shadow_keys user = []
+shadow_keys user = own_key user.name ∷ []
 
--- that of a range of subordinate IDs: its owner
+-- that of a range of subordinate IDs, whose name is its owner
 abbrev pub subid_keys : SubidRecord → List ℕ
-subid_keys range = name_keys (range.owner ∷ [])
+subid_keys range = own_key range.owner ∷ []
 
--- those of a group: its members
+-- those of a group: its own, and its members
 abbrev pub group_keys : GroupRecord → List ℕ
-group_keys group = name_keys group.members
+group_keys group = own_key group.name ∷ name_keys group.members
 
--- those of a record of gshadow: its administrators and its members
+-- those of a record of gshadow: its own, its administrators and its members
 abbrev pub gshadow_keys : GshadowRecord → List ℕ
-gshadow_keys group = name_keys group.administrators ++ name_keys group.members
+gshadow_keys group =
+    own_key group.name ∷ name_keys group.administrators ++ name_keys group.members
 
 -- the keys of a record, where there is one
 abbrev pub keys_in : {R : Type 0} → (R → List ℕ) → Option R → List ℕ
 keys_in keys_of None = []
 keys_in keys_of (Some r) = keys_of r
 
--- the index tells of each key of each record of the lines
-abbrev pub TellsKeys :
-    {R : Type 0} → Format R → (R → List ℕ) → List Line → (ℕ → Option (List ℕ)) → Type 0
-TellsKeys {R = R} format keys_of lines told = (place : ℕ) (r : R)
-    → record_at format lines place ≡ Some r
-    → (key : ℕ) → has_key key (keys_of r) ≡ true → MayBeAt told key place
+-- each record has the key of its own name
+abbrev pub HaveOwnKeys : {R : Type 0} → Format R → (R → List ℕ) → Type 0
+HaveOwnKeys {R = R} format keys_of =
+    (r : R) → has_key (own_key (format.name r)) (keys_of r) ≡ true
 
 -- ---- What changes bring
 
--- the GID that an act gives users
-abbrev pub gid_given : PasswdAct → List ℕ
-gid_given (SetGid gid) = gid ∷ []
-gid_given (SetFields fields) = cons_option fields.gid []
-gid_given _ = []
+-- the key of a name, where one is given
+abbrev pub own_given : Option (List ℕ) → List ℕ
+own_given None = []
+own_given (Some name) = own_key name ∷ []
 
--- the key that a change may bring to users
+-- the keys that an act gives users
+abbrev pub user_given : PasswdAct → List ℕ
+user_given (SetGid gid) = gid ∷ []
+user_given (SetFields fields) = own_given fields.name ++ cons_option fields.gid []
+user_given _ = []
+
+-- the keys that a change may bring to users
 abbrev pub user_brought : PasswdChange → List ℕ
-user_brought (NamedUser name act) = gid_given act
-user_brought (OfGroup gid act) = gid_given act
+user_brought (NamedUser name act) = user_given act
+user_brought (OfGroup gid act) = user_given act
 user_brought (RemoveUser name) = []
 
--- no change brings a key to a record of shadow
+-- the key that an act gives records of shadow
+abbrev pub shadow_given : ShadowAct → List ℕ
+shadow_given (ShadowSetFields fields) = own_given fields.name
+shadow_given _ = []
+
+-- the key that a change may bring to records of shadow
 abbrev pub shadow_brought : ShadowChange → List ℕ
-shadow_brought change = []
+shadow_brought (NamedShadow name act) = shadow_given act
+shadow_brought (RemoveShadow name) = []
 
 -- the key that a change may bring to ranges of subordinate IDs
 abbrev pub subid_brought : SubidChange → List ℕ
-subid_brought (RenameOwner old new) = name_keys (new ∷ [])
+subid_brought (RenameOwner old new) = own_key new ∷ []
 subid_brought (RemoveOwner user uid) = []
 subid_brought (CutRanges cut) = []
 
@@ -105,10 +118,15 @@ joining_group (GroupSetMembers members) = members
 joining_group (GroupSetMembership membership) = either_name membership
 joining_group _ = []
 
+-- the keys that an act gives groups
+abbrev pub group_given : GroupAct → List ℕ
+group_given (GroupRename name) = own_key name ∷ []
+group_given act = name_keys (joining_group act)
+
 -- the keys that a change may bring to groups
 abbrev pub group_brought : GroupChange → List ℕ
-group_brought (NamedGroup name act) = name_keys (joining_group act)
-group_brought (AllGroups act) = name_keys (joining_group act)
+group_brought (NamedGroup name act) = group_given act
+group_brought (AllGroups act) = group_given act
 group_brought (RemoveGroup name) = []
 
 -- the names that an act may bring into a list of a record of gshadow
@@ -119,10 +137,15 @@ joining_gshadow (GshadowSetMembers members) = members
 joining_gshadow (GshadowSetMembership membership) = either_name membership
 joining_gshadow _ = []
 
+-- the keys that an act gives records of gshadow
+abbrev pub gshadow_given : GshadowAct → List ℕ
+gshadow_given (GshadowRename name) = own_key name ∷ []
+gshadow_given act = name_keys (joining_gshadow act)
+
 -- the keys that a change may bring to records of gshadow
 abbrev pub gshadow_brought : GshadowChange → List ℕ
-gshadow_brought (NamedGshadow name act) = name_keys (joining_gshadow act)
-gshadow_brought (AllGshadows act) = name_keys (joining_gshadow act)
+gshadow_brought (NamedGshadow name act) = gshadow_given act
+gshadow_brought (AllGshadows act) = gshadow_given act
 gshadow_brought (RemoveGshadow name) = []
 
 -- the key is that of the user, who joins no group
@@ -148,26 +171,8 @@ IsGshadowLeaver _ key = ⊥
 abbrev pub Needs : {R : Type 0} → (R → List ℕ) → (R → List R) → ℕ → Type 0
 Needs {R = R} keys_of f key = (r : R) → has_key key (keys_of r) ≡ false → f r ≡ r ∷ []
 
--- a record that f makes of another has only keys of that one, and of these
+-- a record that f makes of another has only these keys, and keys of that one
 abbrev pub BringsOnly : {R : Type 0} → (R → List ℕ) → (R → List R) → List ℕ → Type 0
-BringsOnly {R = R} keys_of f keys = (r s : R) → f r ≡ s ∷ [] → (key : ℕ)
-    → has_key key keys ≡ false
+BringsOnly {R = R} keys_of f keys = (r s : R) → Contains (f r) s → (key : ℕ)
     → has_key key (keys_of s) ≡ true
-    → has_key key (keys_of r) ≡ true
-
--- f makes one record of each
-abbrev pub KeepsPlaces : {R : Type 0} → (R → List R) → Type 0
-KeepsPlaces {R = R} f = (r : R) → length (f r) ≡ 1
-
--- f makes one record of each, of the new name where it had the old one, and else of its name
-abbrev pub Renames : {R : Type 0} → Format R → (R → List R) → List ℕ → List ℕ → Type 0
-Renames {R = R} format f old new = (r : R)
-    → map format.name (f r) ≡ (if is_named format old r then new else format.name r) ∷ []
-
--- by f each record of the old name gets the new one, and nothing else is done; what it makes of records
--- can be written
-pub record IsRenaming {R : Type 0} (format : Format R) (f : R → List R) (old new : List ℕ)
-    : Type 0 where
-  pub named : (r : R) → is_named format old r ≡ true → map format.name (f r) ≡ new ∷ []
-  pub others : (r : R) → is_named format old r ≡ false → f r ≡ r ∷ []
-  pub written : IsWrittenEdit format (Become f)
+    → (has_key key keys || has_key key (keys_of r)) ≡ true

@@ -1,2 +1,3 @@
 pub mod KeyPlaces
 pub mod Keys
+pub mod OwnKeys

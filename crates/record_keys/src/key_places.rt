@@ -1,14 +1,14 @@
-// The places where records may have a key, told without a pass over the lines (passwd(5), group(5),
-// gshadow(5)).
+// The places where records may have a key, told without a pass over the lines (passwd(5), shadow(5),
+// group(5), gshadow(5), subuid(5), subgid(5)).
 ghost use Rattle.std.specs.Prelude.{◌==◌, ◌≡◌, ℕ, ◌%◌, ◌<◌, ◌≤◌, ◌∷◌, [], false, length, option_map, IfOk, IfSome};
 ghost use Rattle.record_keys.specs.KeyPlaces.{ArePlacesOf, IsHeldWith, IsOfNone, Notes, listed_places, open_slot, told_places};
 
-use crate::place_lists::PlaceLists;
+use crate::place_lists::{ListedPlaces, PlaceLists};
 use std::alloc::{AllocError, Global};
 use std::marker::Model;
 
-// The least and the greatest number of slots.
-const LEAST: usize = 1_024;
+// The least and the greatest number of slots. The least suits a small file that a batch makes large.
+const LEAST: usize = 16_384;
 
 const GREATEST: usize = 1_048_576;
 
@@ -18,15 +18,16 @@ const OPEN: u32 = u32::MAX;
 /// Where a record stands that has a key.
 #[derive(Clone, Copy)]
 pub enum Spot {
-    /// At this place, counted from 0 over all lines.
+    /// At this place.
     At(usize),
     /// At any place.
     Anywhere,
 }
 
-/// For each key the places where records may have it, counted from 0 over all lines. Keys fall into a
-/// fixed number of slots, and those of one slot have the same places. Contracts see by `told_places`
-/// what is told of each key: the places from the newest note on, or none where any place may have it.
+/// For each key the places where records may have it, each a number by which the caller knows a line.
+/// Keys fall into a fixed number of slots, and those of one slot have the same places. Contracts see by
+/// `told_places` what is told of each key: the places from the newest note on, or none where any place
+/// may have it.
 #[derive(Drop)]
 pub struct KeyPlaces {
     // for each slot the number of the list of its places, or `OPEN`
@@ -59,7 +60,7 @@ impl KeyPlaces {
         })
     }
 
-    /// Notes that a record there has the key. It never fails: without memory, past 1,500,000 notes and
+    /// Notes that a record there has the key. It never fails: without memory, past 3,000,000 notes and
     /// at a place from 4,294,967,295 on, any place may have the key from then on.
     pub fn note(&mut self, key: u64, spot: Spot)
         ensures { Notes (key ∷ []) spot (told_places self.old) (told_places self.new) }
@@ -72,7 +73,7 @@ impl KeyPlaces {
         self.slots[slot] = held_with(&mut self.lists, held, spot);
     }
 
-    /// The places where records may have the key, from the last to the first, each once; none where any
+    /// The places where records may have the key, from the first to the last, each once; none where any
     /// place may have it.
     pub fn places(&self, alloc: Global, key: u64) -> Result<Option<Vec<usize>>, AllocError>
         ensures { IfOk result (λ places. IfSome places (λ found.
@@ -84,8 +85,16 @@ impl KeyPlaces {
         let mut places = self.lists.places(alloc, list)?;
         places.sort_unstable();
         places.dedup();
-        places.reverse();
         Ok(Some(places))
+    }
+
+    /// The same places in no order, and as often as they were noted; none where any place may have the
+    /// key. They take no memory.
+    pub fn listed(&self, key: u64) -> Option<ListedPlaces<'_>>
+        ensures { result ≡ told_places self.now key }
+    {
+        let list = self.list(key)?;
+        Some(self.lists.listed(list))
     }
 
     // The list of the key's slot; none where that is open.

@@ -1,20 +1,19 @@
-// The keys of groups, which are the names in their lists, and what changes do to them (group(5),
-// gshadow(5)).
+// The keys of groups, which beside that of their own name are the names in their lists, and what changes
+// do to them (group(5), gshadow(5)).
 ghost use Rattle.std.specs.Prelude.{◌≡◌, ℕ, List, true, false, IfSome};
 ghost use Rattle.line_edits.specs.Memberships.{joins};
 ghost use Rattle.record_keys.specs.KeyPlaces.{Notes, told_places};
-ghost use Rattle.record_keys.specs.Keys.{IsGroupLeaver, IsGshadowLeaver, IsLeaver, either_name, joining_group, joining_gshadow, name_keys};
+ghost use Rattle.record_keys.specs.Keys.{IsGroupLeaver, IsGshadowLeaver, IsLeaver, either_name, group_given, gshadow_given, name_keys};
 
-use crate::key_names::{note_listed, note_name, note_names};
-use crate::{KeyPlaces, KeyedRecord, Renaming, Spot};
+use crate::key_names::{note_listed, note_name, note_names, note_own, own_key};
+use crate::{KeyPlaces, KeyedRecord, Spot};
 use acct_lines::{GroupLine, GroupRecord, GshadowLine, GshadowRecord};
 use acct_tables::name_hash;
-use acct_text::Bytes;
 use line_edits::{GroupAct, GroupChange, GshadowAct, GshadowChange, Membership, UserGroups};
-use std::alloc::{AllocError, Global};
 
 impl KeyedRecord for GroupRecord {
     ghost use Rattle.record_keys.specs.Keys.{group_brought, group_keys};
+    ghost use Rattle.record_keys.specs.OwnKeys.{group-own};
 
     ghost keys = { group_keys };
 
@@ -22,18 +21,22 @@ impl KeyedRecord for GroupRecord {
 
     fn note_line(line: &[u8], place: usize, index: &mut KeyPlaces) {
         if let Ok(group) = GroupLine::read(line) {
+            note_own(group.name, Spot::At(place), index);
             note_listed(group.members, Spot::At(place), index);
         }
     }
 
     fn note(&self, spot: Spot, index: &mut KeyPlaces) {
+        note_own(self.name.as_slice(), spot, index);
         note_names(&self.members, spot, index);
     }
 
     fn needed(change: &GroupChange) -> Option<u64> {
         match change {
             GroupChange::All(act) => leaver_of_group(act),
-            GroupChange::Named(..) | GroupChange::Remove(_) => None,
+            GroupChange::Named(name, _) | GroupChange::Remove(name) => Some(own_key(
+                name.as_slice(),
+            )),
         }
     }
 
@@ -46,25 +49,7 @@ impl KeyedRecord for GroupRecord {
         }
     }
 
-    fn keeps_places(change: &GroupChange) -> bool {
-        !matches!(change, GroupChange::Remove(_))
-    }
-
-    fn renamed(change: &GroupChange) -> Option<Renaming<'_>> {
-        match change {
-            GroupChange::Named(name, GroupAct::Rename(new)) => Some(Renaming {
-                old: name.as_slice(),
-                new: new.as_slice(),
-            }),
-            _ => None,
-        }
-    }
-
-    fn renaming(alloc: Global, old: &[u8], new: &[u8]) -> Result<GroupChange, AllocError> {
-        let name = Bytes::of(alloc, old)?;
-        let given = Bytes::of(alloc, new)?;
-        Ok(GroupChange::Named(name, GroupAct::Rename(given)))
-    }
+    ghost own = { group-own };
 }
 
 // The key of the user without whom the act leaves a group; none at other acts.
@@ -78,12 +63,12 @@ fn leaver_of_group(act: &GroupAct) -> Option<u64>
     }
 }
 
-// Notes the members there that the act may bring to a group.
+// Notes the name and the members there that the act may bring to a group.
 fn bring_to_group(act: &GroupAct, spot: Spot, index: &mut KeyPlaces)
-    ensures { Notes (name_keys (joining_group act.now)) spot
-        (told_places index.old) (told_places index.new) }
+    ensures { Notes (group_given act.now) spot (told_places index.old) (told_places index.new) }
 {
     match act {
+        GroupAct::Rename(name) => note_own(name.as_slice(), spot, index),
         GroupAct::AddMember(user) => note_name(user.as_slice(), spot, index),
         GroupAct::SetMembers(members) => note_names(members, spot, index),
         GroupAct::SetMembership(membership) => note_user(membership, spot, index),
@@ -93,6 +78,7 @@ fn bring_to_group(act: &GroupAct, spot: Spot, index: &mut KeyPlaces)
 
 impl KeyedRecord for GshadowRecord {
     ghost use Rattle.record_keys.specs.Keys.{gshadow_brought, gshadow_keys};
+    ghost use Rattle.record_keys.specs.OwnKeys.{gshadow-own};
 
     ghost keys = { gshadow_keys };
 
@@ -100,12 +86,14 @@ impl KeyedRecord for GshadowRecord {
 
     fn note_line(line: &[u8], place: usize, index: &mut KeyPlaces) {
         if let Ok(group) = GshadowLine::read(line) {
+            note_own(group.name, Spot::At(place), index);
             note_listed(group.administrators, Spot::At(place), index);
             note_listed(group.members, Spot::At(place), index);
         }
     }
 
     fn note(&self, spot: Spot, index: &mut KeyPlaces) {
+        note_own(self.name.as_slice(), spot, index);
         note_names(&self.administrators, spot, index);
         note_names(&self.members, spot, index);
     }
@@ -113,7 +101,9 @@ impl KeyedRecord for GshadowRecord {
     fn needed(change: &GshadowChange) -> Option<u64> {
         match change {
             GshadowChange::All(act) => leaver_of_gshadow(act),
-            GshadowChange::Named(..) | GshadowChange::Remove(_) => None,
+            GshadowChange::Named(name, _) | GshadowChange::Remove(name) => Some(own_key(
+                name.as_slice(),
+            )),
         }
     }
 
@@ -126,25 +116,7 @@ impl KeyedRecord for GshadowRecord {
         }
     }
 
-    fn keeps_places(change: &GshadowChange) -> bool {
-        !matches!(change, GshadowChange::Remove(_))
-    }
-
-    fn renamed(change: &GshadowChange) -> Option<Renaming<'_>> {
-        match change {
-            GshadowChange::Named(name, GshadowAct::Rename(new)) => Some(Renaming {
-                old: name.as_slice(),
-                new: new.as_slice(),
-            }),
-            _ => None,
-        }
-    }
-
-    fn renaming(alloc: Global, old: &[u8], new: &[u8]) -> Result<GshadowChange, AllocError> {
-        let name = Bytes::of(alloc, old)?;
-        let given = Bytes::of(alloc, new)?;
-        Ok(GshadowChange::Named(name, GshadowAct::Rename(given)))
-    }
+    ghost own = { gshadow-own };
 }
 
 // The key of the user without whom the act leaves a record of gshadow; none at other acts.
@@ -158,12 +130,13 @@ fn leaver_of_gshadow(act: &GshadowAct) -> Option<u64>
     }
 }
 
-// Notes the administrators and members there that the act may bring to a record of gshadow.
+// Notes the name, the administrators and the members there that the act may bring to a record of gshadow.
 fn bring_to_gshadow(act: &GshadowAct, spot: Spot, index: &mut KeyPlaces)
-    ensures { Notes (name_keys (joining_gshadow act.now)) spot
+    ensures { Notes (gshadow_given act.now) spot
         (told_places index.old) (told_places index.new) }
 {
     match act {
+        GshadowAct::Rename(name) => note_own(name.as_slice(), spot, index),
         GshadowAct::SetAdministrators(names) | GshadowAct::SetMembers(names) => {
             note_names(names, spot, index)
         }

@@ -1,18 +1,18 @@
-// Lists of places, of which each longer one is a place in front of another (passwd(5), group(5),
-// gshadow(5)).
-ghost use Rattle.std.specs.Prelude.{◌≡◌, ◌∷◌, ℕ, ◌<◌, ◌≤◌, [], length, IfOk, IfSome, Some, true, false};
+// Lists of places, of which each longer one is a place in front of another (passwd(5), shadow(5),
+// group(5), gshadow(5), subuid(5), subgid(5)).
+ghost use Rattle.std.specs.Prelude.{◌≡◌, ◌∷◌, ℕ, ◌<◌, ◌≤◌, [], length, IfOk, IfSome, MatchOption, Some, true, false};
 ghost use Rattle.record_keys.specs.KeyPlaces.{list_from, listed_places, with_place};
 
 use std::alloc::{AllocError, Global};
 use std::marker::Model;
 
-// The greatest number of lists, which take 12 MB.
-const MOST_LISTS: usize = 1_500_000;
+// The greatest number of lists, which take 24 MB.
+const MOST_LISTS: usize = 3_000_000;
 
 /// A place in front of an older list.
 #[derive(Clone, Copy, Drop)]
 pub(crate) struct Link {
-    /// The place, counted from 0.
+    /// The place.
     pub(crate) place: u32,
     /// The number of the older list.
     pub(crate) older: u32,
@@ -35,7 +35,7 @@ impl Model for PlaceLists {
     ghost view = { λ lists. reverse lists.links.items };
 
     ghost invariant = { λ lists.
-        AreLinked (reverse lists.links.items) × length lists.links.items ≤ 1500000 };
+        AreLinked (reverse lists.links.items) × length lists.links.items ≤ 3000000 };
 }
 
 impl PlaceLists {
@@ -49,7 +49,7 @@ impl PlaceLists {
     }
 
     /// The number of the list with the place in front of those of an older one. None without memory,
-    /// and where there are 1,500,000 lists: then the lists are as before.
+    /// and where there are 3,000,000 lists: then the lists are as before.
     pub(crate) fn longer(&mut self, place: u32, older: u32) -> Option<u32>
         requires { older ≤ length self.old }
         ensures kept { (number : ℕ) → number ≤ length self.old
@@ -78,12 +78,22 @@ impl PlaceLists {
         ensures { IfOk result (λ places. places.items ≡ listed_places self.now number) }
     {
         let mut places = Vec::new(alloc);
-        let mut left = number;
-        'links: while let Some(link) = self.link(left) {
-            places.push(link.place as usize)?;
-            left = link.older;
+        let mut listed = self.listed(number);
+        'listed: while let Some(place) = listed.take() {
+            places.push(place)?;
         }
         Ok(places)
+    }
+
+    /// The places of the list, each as often as it is there, without memory.
+    pub(crate) fn listed(&self, number: u32) -> ListedPlaces<'_>
+        requires { number ≤ length self.now }
+        ensures { result ≡ listed_places self.now number }
+    {
+        ListedPlaces {
+            lists: self,
+            left: number,
+        }
     }
 
     // Whether the list begins with the place.
@@ -110,5 +120,36 @@ impl PlaceLists {
             return None;
         }
         Some(self.links[number as usize - 1])
+    }
+}
+
+/// The places of a list that are still to be looked at. Contracts see these.
+#[derive(Drop)]
+pub struct ListedPlaces<'a> {
+    lists: &'a PlaceLists,
+    // the number of the list that is left
+    left: u32,
+}
+
+impl<'a> Model for ListedPlaces<'a> {
+    ghost use Rattle.std.specs.Prelude.{ℕ, ◌≤◌, List, length};
+    ghost use Rattle.record_keys.specs.KeyPlaces.{listed_places};
+
+    ghost Value = { List ℕ };
+
+    ghost view = { λ listed. listed_places listed.lists.now listed.left };
+
+    ghost invariant = { λ listed. listed.left ≤ length listed.lists.now };
+}
+
+impl<'a> ListedPlaces<'a> {
+    /// Takes the next place; none where all are taken.
+    pub fn take(&mut self) -> Option<usize>
+        ensures taken { MatchOption result (self.old ≡ []) (λ place. self.old ≡ place ∷ self.new) }
+        ensures over { self.old ≡ [] → self.new ≡ [] }
+    {
+        let link = self.lists.link(self.left)?;
+        self.left = link.older;
+        Some(link.place as usize)
     }
 }

@@ -4,7 +4,7 @@ ghost use Rattle.std.specs.Prelude.{◌≡◌, OnOk};
 ghost use Rattle.account_model.specs.Records.{subid_format};
 ghost use Rattle.account_model.specs.Tables.{files_after};
 ghost use Rattle.account_model.specs.WrittenScript.{IsWrittenScript};
-ghost use Rattle.carried_lines.specs.TableEdits.{AreWritten, table_by};
+ghost use Rattle.table.specs.TableEdits.{AreWritten, table_by};
 ghost use Rattle.line_edits.specs.SubidChanges.{subid_becomes};
 ghost use Rattle.table_edits.specs.Deciding.{CarriesAs};
 ghost use Rattle.table_edits.specs.SeenScript.{seen_script};

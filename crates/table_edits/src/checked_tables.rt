@@ -9,16 +9,20 @@ ghost use Rattle.account_model.specs.Records.{subid_format};
 ghost use Rattle.account_model.specs.Tables.{table_after, table_records};
 ghost use Rattle.account_model.specs.WrittenScript.{IsWrittenScript};
 ghost use Rattle.line_edits.specs.SeenEdits.{seen_edits};
+ghost use Rattle.table.specs.TableEdits.{AreWritten};
 ghost use Rattle.table_edits.specs.CheckedTables.{changes_by};
 ghost use Rattle.table_edits.specs.SeenScript.{seen_script};
 ghost use Rattle.line_edits.specs.SubidChanges.{subid_becomes};
 
 use crate::idle_edits::{IdleRecord, leave_all_records};
 use crate::{Refusal, Script, SubidRecord};
+use acct_tables::MANY;
 use acct_text::{Bytes, Files, NewTables, Tab};
 use line_edits::{Checked, Edit, SubidChange, checked_text};
 use range_edits::{edited_ranges, open_edits};
+use record_keys::KeyedRecord;
 use std::alloc::{AllocError, Global};
+use table::Table;
 
 /// What the edits of a script make of the tables.
 #[derive(Drop)]
@@ -65,7 +69,7 @@ pub(crate) fn checked_tables(
 
 // Adds the table where its edits change it, and answers the refusal of the first multiple entry that
 // they touch. No bytes are made of a table that is absent or whose edits leave each record.
-fn add<R: IdleRecord + Drop>(
+fn add<R: IdleRecord + KeyedRecord + Drop>(
     alloc: Global,
     new: &mut NewTables,
     table: Tab,
@@ -83,6 +87,9 @@ fn add<R: IdleRecord + Drop>(
     if leave_all_records(edits) {
         return Ok(None);
     }
+    if edits.len() >= MANY {
+        return add_by_table(alloc, new, table, file, edits);
+    }
     match checked_text(alloc, text.as_slice(), edits)? {
         Checked::Multiple(name) => Ok(Some(Refusal::Multiple(table, name))),
         Checked::Edited(bytes) => {
@@ -90,6 +97,32 @@ fn add<R: IdleRecord + Drop>(
             Ok(None)
         }
     }
+}
+
+// The same of many edits, each of which is carried out where its records stand.
+fn add_by_table<R: KeyedRecord + Drop>(
+    alloc: Global,
+    new: &mut NewTables,
+    table: Tab,
+    file: &Option<Bytes>,
+    edits: &[Edit<R, R::Change>],
+) -> Result<Option<Refusal>, AllocError>
+    requires { AreWritten R.format R.becomes edits.now }
+    ensures refusal { IfOk result (λ refusal. refusal ≡ multiple_in table R.format
+        (seen_edits R.becomes edits.now) (table_records R.format file.now)) }
+    ensures added { IfOk result (λ refusal. refusal ≡ None
+        → new.new ≡ new.old ++ with_new_table table (changed_bytes file.now
+        (table_after R.format (seen_edits R.becomes edits.now) file.now)) []) }
+{
+    let mut lines = Table::of(alloc, file)?;
+    if let Some(name) = lines.first_multiple(alloc, edits)? {
+        return Ok(Some(Refusal::Multiple(table, name)));
+    }
+    lines.edit(alloc, edits)?;
+    if let (Some(text), Some(bytes)) = (file, lines.take_file()?) {
+        new.push(table, text, bytes)?;
+    }
+    Ok(None)
 }
 
 // The same for subuid or subgid.

@@ -9,7 +9,7 @@ ghost use Rattle.table_edits.specs.IdleEdits.{LeavesAll, LeavesRecords, SetsShad
 use crate::{GroupRecord, GshadowRecord, PasswdRecord, ShadowRecord};
 use line_edits::{
     DaysChange, Edit, EditedRecord, GroupChange, GshadowChange, PasswdAct, PasswdChange, ShadowAct,
-    ShadowChange, ShadowFields, UserFields,
+    ShadowChange, ShadowFields, UserFields, leaves_name,
 };
 
 /// A record of a table, of whose changes it is seen which leave each record.
@@ -22,8 +22,8 @@ pub(crate) trait IdleRecord: EditedRecord {
 impl IdleRecord for PasswdRecord {
     fn leaves_all(change: &PasswdChange) -> bool {
         match change {
-            PasswdChange::Named(_, PasswdAct::SetFields(fields)) => {
-                sets_user_name_alone(fields) && PasswdRecord::keeps_names(change)
+            PasswdChange::Named(name, PasswdAct::SetFields(fields)) => {
+                sets_user_name_alone(fields) && leaves_name(&fields.name, name)
             }
             _ => false,
         }
@@ -33,8 +33,8 @@ impl IdleRecord for PasswdRecord {
 impl IdleRecord for ShadowRecord {
     fn leaves_all(change: &ShadowChange) -> bool {
         match change {
-            ShadowChange::Named(_, ShadowAct::SetFields(fields)) => {
-                sets_shadow_name_alone(fields) && ShadowRecord::keeps_names(change)
+            ShadowChange::Named(name, ShadowAct::SetFields(fields)) => {
+                sets_shadow_name_alone(fields) && leaves_name(&fields.name, name)
             }
             _ => false,
         }

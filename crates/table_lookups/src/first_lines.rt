@@ -8,10 +8,10 @@ ghost use Rattle.table_lookups.specs.FirstLines.{Tells, TellsNames, has_name, is
 use acct_lines::{TableRecord, first_field};
 use acct_tables::{Lines, is_record, name_of, read_record};
 use acct_text::Bytes;
-use carried_lines::text_of;
 use indexmap::IndexMap;
 use line_edits::NameSet;
 use std::alloc::{AllocError, Global};
+use table::text_of;
 
 /// For each name that a record of a file has, or for those of them that are asked for, the line of the
 /// first. A look-up takes no pass over the lines.

@@ -18,13 +18,13 @@ use crate::first_lines::FirstOfNames;
 use acct_lines::GroupRecord;
 use acct_tables::{Lines, name_of};
 use acct_text::{Bytes, Names};
-use carried_lines::text_of;
 use carried_tables::IdRecord;
 use id_choice::UsedIds;
 use indexmap::IndexMap;
 use line_edits::NameSet;
 use std::alloc::{AllocError, Global};
 use std::marker::Model;
+use table::text_of;
 
 /// The lines of group(5) that are the first with each of the GIDs that are asked for.
 pub(crate) struct FirstOfGids<'a> {

@@ -8,9 +8,9 @@ ghost use Rattle.id_choice.specs.Used.{AreThoseOf};
 use crate::Tables;
 use crate::tables::Source;
 use acct_lines::GroupRecord;
-use carried_lines::{OfGid, first_passing};
 use carried_tables::{IdsInUse, used_ids};
 use std::alloc::{AllocError, Global};
+use table::{OfGid, first_passing};
 
 impl<'a> Tables<'a> {
     /// The first group with the GID. In carried tables there is a pass over group(5) only where the

@@ -11,8 +11,8 @@ use account_model::Refusal;
 use acct_lines::{GroupRecord, GshadowRecord, PasswdRecord, ShadowRecord};
 use acct_tables::{find_record, has_record};
 use acct_text::Bytes;
-use carried_lines::text_of;
 use std::alloc::{AllocError, Global};
+use table::text_of;
 use tool_answers::ToolFault;
 
 impl Tables<'_> {

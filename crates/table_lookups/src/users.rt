@@ -16,10 +16,10 @@ use crate::tables::Source;
 use account_model::Refusal;
 use acct_lines::PasswdRecord;
 use acct_text::{Bytes, Names};
-use carried_lines::{OfGid, OfUid, RecordTest, first_passing};
 use carried_tables::{IdsInUse, used_ids};
 use line_edits::NameSet;
 use std::alloc::{AllocError, Global};
+use table::{OfGid, OfUid, RecordTest, first_passing};
 use tool_answers::ToolFault;
 
 impl<'a> Tables<'a> {

@@ -12,9 +12,13 @@ mod fault_texts;
 #[cfg(test)]
 mod ids;
 #[cfg(test)]
+mod places;
+#[cfg(test)]
 mod ranges;
 #[cfg(test)]
 mod records;
+#[cfg(test)]
+mod table_lines;
 #[cfg(test)]
 mod tables;
 #[cfg(test)]

@@ -10,10 +10,9 @@ ghost use Rattle.line_edits.specs.HashChanges.{hash_by};
 
 use acct_text::Bytes;
 use command_values::Asked;
-use hash_edits::{change_user_hash, demand_shadow};
 use line_edits::HashChange;
 use std::alloc::{AllocError, Global};
-use table_edits::Script;
+use table_edits::{Script, change_user_hash, demand_shadow};
 use table_lookups::Tables;
 
 /// Makes the line of shadow on demand, and then changes the hash.

@@ -16,10 +16,9 @@ use account_model::{Allotment, Plan, ShadowRecord, SubidRecord};
 use acct_text::Bytes;
 use command_values::Asked;
 use given_groups::{group_name, group_words, groups_asked};
-use hash_edits::add_group;
 use line_edits::{Edit, SubidChange};
 use std::alloc::{AllocError, Global};
-use table_edits::Script;
+use table_edits::{Script, add_group};
 use table_lookups::{GroupIndex, Tables};
 
 /// The edits that make a user of these IDs with this line of shadow, by the plan: the lines of the

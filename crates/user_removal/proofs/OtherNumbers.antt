@@ -1,16 +1,17 @@
 -- Claims: the ID that is asked for is the number of the test for another user with it (`uid-of-other`,
 -- `gid-of-other`), and a GID is its key (`key-of-other`). Way: the line of a user has its UID and its
 -- primary GID in decimal, and who passes has the ID.
-use Rattle.std.proofs.Common.{◌≡◌, ◌∙◌, ℕ, true, false, List, not, sym, ap}
-use Rattle.std.specs.Prelude.{◌||◌}
-use Rattle.std.proofs.lemmas.Bool.{and_parts, eqb-true}
+use Rattle.std.proofs.Common.{◌≡◌, ◌∙◌, ℕ, true, false, List, [], ◌∷◌, not, sym, ap}
+use Rattle.std.specs.Prelude.{◌==◌, ◌||◌}
+use Rattle.std.proofs.lemmas.Bool.{and_parts, eqb-true, or_right}
 use Rattle.account_model.specs.Format.{is_named}
 use Rattle.account_model.specs.Records.{passwd_format}
 use Rattle.account_model.specs.declared.records.PasswdRecord.{PasswdRecord}
 use Rattle.acct_tables.proofs.FieldMarks.{holds-primary, holds-uid}
-use Rattle.record_keys.specs.Keys.{user_keys}
-use Rattle.carried_lines.specs.Accepting.{IsKeyOf, IsNumberOf}
-use Rattle.carried_lines.proofs.NumberLemmas.{number-of}
+use Rattle.record_keys.specs.KeyPlaces.{has_key}
+use Rattle.record_keys.specs.Keys.{own_key, user_keys}
+use Rattle.table.specs.Accepting.{IsKeyOf, IsNumberOf}
+use Rattle.table.proofs.NumberLemmas.{number-of}
 use Rattle.user_removal.specs.Others.{has_id, is_other_with}
 use Rattle.user_removal.specs.declared.others.AccountId.{AccountId}
 use Rattle.user_removal.specs.declared.others.AccountId.TheVariants.{Uid, Gid}
@@ -37,8 +38,9 @@ module _ (name : List ℕ) (id : AccountId) where
       (λ user passes. eqb-true user.gid gid
       (sym (ap (λ other. has_id other user) is) ∙ has-passing user passes))
 
-  -- which is the key of users
+  -- which is a key of users, beside that of the name
   pub key-of-other : (gid : ℕ) → id ≡ Gid gid → IsKeyOf user_keys (is_other_with name id) gid
   key-of-other gid is = λ user passes.
-      ap (λ same. same || false)
-      (sym (ap (λ other. has_id other user) is) ∙ has-passing user passes)
+      or_right (own_key user.name == gid) (has_key gid (user.gid ∷ []))
+      (ap (λ same. same || false)
+      (sym (ap (λ other. has_id other user) is) ∙ has-passing user passes))

@@ -6,8 +6,8 @@ ghost use Rattle.user_removal.specs.Others.{has_id};
 
 use account_model::PasswdRecord;
 use acct_lines::PasswdLine;
-use carried_lines::RecordTest;
 use std::alloc::{AllocError, Global};
+use table::RecordTest;
 use table_lookups::Tables;
 
 /// An ID of a user.

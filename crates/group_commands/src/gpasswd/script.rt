@@ -11,10 +11,9 @@ ghost use Rattle.table_edits.specs.Additions.{HasAlso};
 
 use acct_text::{Bytes, Names};
 use command_values::{Asked, list_value};
-use hash_edits::{demand_gshadow, set_group_hash};
 use line_edits::{GroupAct, GshadowAct};
 use std::alloc::{AllocError, Global};
-use table_edits::Script;
+use table_edits::{Script, demand_gshadow, set_group_hash};
 use table_lookups::Tables;
 
 /// The edits that the options ask for, in their order.

@@ -29,5 +29,5 @@ returns g c =
     follow told _ _ are (λ id.
     one-swaps format id_of change c.args.renumbering.name.now c.args.renumbering.new_id renumbers
     records c.in-Some.lost id (sym c.in_ok-lost.ensures ∙ c.in-Some.is)
-    (leb-false 2 _ (sym c.has_several.ensures ∙ c.if-has_several.false))))
+    (leb-false 2 _ (sym (c.in_ok-are_several.ensures {u = tt}) ∙ c.if-are_several.false))))
     c.swap.ensures

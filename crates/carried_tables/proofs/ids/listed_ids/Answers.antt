@@ -2,8 +2,8 @@ use Rattle.std.proofs.Common.{◌∙◌, ◌++◌, length, map, ap, arith}
 use Rattle.account_model.specs.Format.{records_of}
 use Rattle.account_model.specs.Tables.{table_records}
 use Rattle.acct_tables.specs.SeenLines.{seen_line}
-use Rattle.carried_lines.proofs.FileLemmas.{records-in}
-use Rattle.carried_lines.proofs.RecordLemmas.{ids-end, ids-found}
+use Rattle.table.proofs.FileLemmas.{records-in}
+use Rattle.carried_tables.proofs.GatheredIds.{ids-end, ids-found}
 use Rattle.carried_tables.proofs.ids.listed_ids.Goals as goal
 
 -- all lines are left

@@ -1,6 +1,6 @@
 use Rattle.std.proofs.Common.{length, map}
 use Rattle.account_model.specs.Tables.{table_records}
-use Rattle.carried_lines.proofs.RecordLemmas.{Gathers}
+use Rattle.carried_tables.proofs.GatheredIds.{Gathers}
 use Rattle.carried_tables.proofs.ids.listed_ids.Given as goal
 
 -- the IDs so far, with those of the lines left, are all

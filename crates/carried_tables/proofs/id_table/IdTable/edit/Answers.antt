@@ -4,7 +4,7 @@ use Rattle.std.proofs.lemmas.Result.{on_ok_weaker}
 use Rattle.account_model.specs.RecordEdits.{IsWrittenEdit}
 use Rattle.line_edits.specs.SeenEdits.{seen_edits}
 use Rattle.line_edits.proofs.EditLists.{edits-from, edits-up_to, no-edits}
-use Rattle.carried_lines.specs.TableEdits.{AreWritten, table_by}
+use Rattle.table.specs.TableEdits.{AreWritten, table_by}
 use Rattle.carried_tables.proofs.EditedTables.{no-edit, table-there, table-two}
 use Rattle.carried_tables.proofs.id_table.IdTable.edit.Goals as goal
 

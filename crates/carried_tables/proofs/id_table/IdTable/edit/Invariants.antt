@@ -1,6 +1,6 @@
 use Rattle.std.proofs.Common.{◌≡◌, true, length}
 use Rattle.std.specs.Prelude.{is_some}
-use Rattle.carried_lines.specs.TableEdits.{AreWritten, table_by}
+use Rattle.table.specs.TableEdits.{AreWritten, table_by}
 use Rattle.carried_tables.proofs.id_table.IdTable.edit.Given as goal
 
 -- the edits left make of the file what all make of the first one, which is there

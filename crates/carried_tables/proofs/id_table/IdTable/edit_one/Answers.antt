@@ -1,4 +1,4 @@
-use Rattle.carried_lines.proofs.GoneEdits.{only-one, only-written}
+use Rattle.carried_tables.proofs.EditedTables.{only-one, only-written}
 use Rattle.carried_tables.proofs.id_table.IdTable.edit_one.Goals as goal
 
 -- the edit may print what the only one may

@@ -4,7 +4,7 @@ use Rattle.std.proofs.lemmas.Result.{on_ok_weaker}
 use Rattle.account_model.specs.Edits.Edit.{Become}
 use Rattle.account_model.specs.Records.{subid_format}
 use Rattle.account_model.specs.Tables.{table_after, table_records}
-use Rattle.carried_lines.specs.TableEdits.{table_by}
+use Rattle.table.specs.TableEdits.{table_by}
 use Rattle.line_edits.specs.SeenEdits.{records_in}
 use Rattle.line_edits.specs.SubidChanges.{subid_becomes}
 use Rattle.carried_tables.specs.RangeNumbers.{AreNumbersIn, IsOnlyOf}

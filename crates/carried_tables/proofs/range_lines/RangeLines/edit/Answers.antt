@@ -2,7 +2,7 @@ use Rattle.std.proofs.Common.{◌≡◌, ◌∙◌, [], drop, take, refl, ap, sy
 use Rattle.std.specs.Prelude.{is_some}
 use Rattle.account_model.specs.RecordEdits.{IsWrittenEdit}
 use Rattle.account_model.specs.Records.{subid_format}
-use Rattle.carried_lines.specs.TableEdits.{AreWritten, table_by}
+use Rattle.table.specs.TableEdits.{AreWritten, table_by}
 use Rattle.line_edits.specs.SeenEdits.{seen_edits}
 use Rattle.line_edits.specs.SubidChanges.{subid_becomes}
 use Rattle.line_edits.proofs.EditLists.{edits-from, edits-up_to, no-edits}

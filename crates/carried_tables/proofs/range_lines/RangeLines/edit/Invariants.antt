@@ -1,7 +1,7 @@
 use Rattle.std.proofs.Common.{◌≡◌, true, length}
 use Rattle.std.specs.Prelude.{is_some}
 use Rattle.account_model.specs.Records.{subid_format}
-use Rattle.carried_lines.specs.TableEdits.{AreWritten, table_by}
+use Rattle.table.specs.TableEdits.{AreWritten, table_by}
 use Rattle.line_edits.specs.SubidChanges.{subid_becomes}
 use Rattle.carried_tables.proofs.range_lines.RangeLines.edit.Given as goal
 

@@ -1,4 +1,4 @@
-use Rattle.std.proofs.Common.{◌∙◌, sym, ap, subst, reverse}
+use Rattle.std.proofs.Common.{◌∙◌, sym, ap, subst}
 use Rattle.std.specs.Prelude.{Some, nat_eq}
 use Rattle.std.proofs.lemmas.List.Filters.{dedup_is}
 use Rattle.record_keys.specs.KeyPlaces.{ArePlacesOf, listed_places, told_places}
@@ -14,6 +14,6 @@ returns c =
     let same = c.in_ok-places.ensures {u = tt}
     ∙ ap (λ index. listed_places index.1 c.in-Some.list) c.self.view_is in
     subst (ArePlacesOf told c.args.key)
-    (sym (c.reverse.ensures.items ∙ ap reverse (dedup_is nat_eq _ _ c.dedup.ensures.filtered)))
+    (sym (dedup_is nat_eq _ _ c.dedup.ensures.filtered))
     (found-places told c.args.key noted sorted (c.in-Some.ensures.told ∙ ap Some (sym same))
     c.sort_unstable.ensures.permutation c.sort_unstable.ensures.sorted)

@@ -2,7 +2,7 @@ use Rattle.std.proofs.Common.{◌∙◌, length, ap, subst, arith, rules}
 use Rattle.account_model.specs.Format.{records_of}
 use Rattle.account_model.specs.Tables.{table_records}
 use Rattle.table_lookups.specs.FirstLines.{Tells, has_name, is_asked, told_names}
-use Rattle.carried_lines.proofs.FileLemmas.{records-in}
+use Rattle.table.proofs.FileLemmas.{records-in}
 use Rattle.table_lookups.proofs.FirstLemmas.{none-told}
 use Rattle.table_lookups.proofs.first_lines.FirstOfNames.of.Goals as goal
 

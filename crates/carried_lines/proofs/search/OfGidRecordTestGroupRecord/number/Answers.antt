@@ -1,6 +1,0 @@
-use Rattle.carried_lines.proofs.NumberLemmas.{gid-of-group}
-use Rattle.carried_lines.proofs.search.OfGidRecordTestGroupRecord.number.Goals as goal
-
--- the line of a group has the text of its GID
-pub returns : goal.returns
-returns c = gid-of-group c.args.self.now.gid

@@ -1,6 +1,0 @@
-use Rattle.carried_lines.proofs.NumberLemmas.{uid-of-user}
-use Rattle.carried_lines.proofs.search.OfUidRecordTestPasswdRecord.number.Goals as goal
-
--- the line of a user has the text of its UID
-pub returns : goal.returns
-returns c = uid-of-user c.args.self.now.uid

@@ -1,0 +1,3 @@
+pub mod PlacedCells
+pub mod BegunLines
+pub mod KeptCells

@@ -1,0 +1,14 @@
+pub mod RecordLemmas
+pub mod FileLemmas
+pub mod NumberLemmas
+pub mod PlaceLemmas
+pub mod ReachedRecords
+pub mod ChangedTexts
+pub mod KeptCells
+pub mod ReachLemmas
+pub mod EditedCells
+pub mod PutRecords
+pub mod TableLemmas
+pub mod SeveralNames
+pub mod NamedPlaces
+pub mod ReachedNames

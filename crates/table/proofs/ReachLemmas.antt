@@ -1,0 +1,188 @@
+-- Claims: the places that an index tells of a key reach each record that has it (`told-reaches`), and so
+-- do all places (`all-reaches`); what reaches the records that one test accepts reaches those that
+-- accept no more (`reaches-weaker`), as the records of a name by its own key (`named-reached`). To change
+-- the records there is to change all (`reached-changes`). Way: record by record.
+use Rattle.std.proofs.Common.{◌≡◌, ◌∙◌, ℕ, ◌<◌, Bool, true, false, eqb, List, [], ◌∷◌, length, map, refl, sym, ap, subst, arith}
+use Rattle.std.specs.Prelude.{AllPairs, IfSome, Option, None, Some, flat_map}
+use Rattle.std.specs.List.{AllByRecursion}
+use Rattle.std.proofs.ByRecursion.{All-weaker}
+use Rattle.std.proofs.lemmas.Bool.{eq-eqb, false_from_ne_true, or_left, or_right}
+use Rattle.std.proofs.lemmas.List.{get_or-map, length-map}
+use Rattle.std.proofs.lemmas.Slice.Eq.{bytes_eq-Decides}
+use Rattle.account_model.specs.Edits.{becomes}
+use Rattle.account_model.specs.Format.{Format, is_named}
+use Rattle.account_model.specs.Ids.{is_used}
+use Rattle.account_model.specs.RecordEdits.{TellsSame}
+use Rattle.line_file.specs.Cells.{ArePlaced, lines_now}
+use Rattle.line_file.specs.declared.cell.Cell.{Cell}
+use Rattle.record_keys.specs.KeyPlaces.{ArePlacesOf, has_key}
+use Rattle.record_keys.specs.Keys.{HaveOwnKeys, Needs, own_key}
+use Rattle.table.specs.Changed.{changed_there}
+use Rattle.table.specs.TableCells.{AreKept, HoldsIn, HoldsOf, HoldsThere, IsSound, IsTold, Reaches, TouchesAt, has_asked}
+use Rattle.table.proofs.ChangedTexts.{all-changed}
+
+module _ {R : Type 0} (format : Format R) where
+  -- what holds of each record and its place, in other words
+  pub there-weaker :
+      (P Q : ℕ → R → Type 0)
+      → ((place : ℕ) (r : R) → P place r → Q place r)
+      → (cells : List Cell)
+      → HoldsThere format P cells
+      → HoldsThere format Q cells
+  there-weaker P Q weaker cells holds =
+      All-weaker (λ cell. HoldsIn format (P cell.place) cell)
+      (λ cell. HoldsIn format (Q cell.place) cell)
+      (λ cell here. All-weaker (HoldsOf format (P cell.place)) (HoldsOf format (Q cell.place))
+      (λ text is r reads. weaker cell.place r (is r reads)) cell.texts here) cells holds
+
+  -- fewer records are reached too
+  pub reaches-weaker :
+      (test other : R → Bool) (cells : List Cell) (places : List ℕ)
+      → ((r : R) → test r ≡ true → other r ≡ true)
+      → Reaches format other cells places
+      → Reaches format test cells places
+  reaches-weaker test other cells places needs reached = record {
+    all = there-weaker (λ place r. other r ≡ true → is_used places place ≡ true)
+        (λ place r. test r ≡ true → is_used places place ≡ true)
+        (λ place r is passes. is (needs r passes)) cells reached.all;
+    ascending = reached.ascending;
+    sound = reached.sound;
+    placed = reached.placed;
+  }
+
+  module _ (keys_of : R → List ℕ) where
+    -- the records of a name are reached by its own key
+    pub named-reached :
+        (name : List ℕ) (cells : List Cell) (places : List ℕ)
+        → HaveOwnKeys format keys_of
+        → Reaches format (has_asked keys_of (Some (own_key name))) cells places
+        → Reaches format (is_named format name) cells places
+    named-reached name cells places own reached =
+        reaches-weaker (is_named format name) (has_asked keys_of (Some (own_key name))) cells places
+        (λ r named.
+        subst (λ name. has_key (own_key name) (keys_of r) ≡ true)
+        ((bytes_eq-Decides (format.name r) name).0 named) (own r))
+        reached
+
+    -- by the places that are told of a key
+    pub told-reaches :
+        (told : ℕ → Option (List ℕ)) (key : ℕ) (cells : List Cell) (places : List ℕ)
+        → AreKept format keys_of told cells
+        → ArePlacesOf told key places
+        → Reaches format (has_asked keys_of (Some key)) cells places
+    told-reaches told key cells places kept are = record {
+      all = there-weaker (IsTold keys_of told)
+          (λ place r. has_key key (keys_of r) ≡ true → is_used places place ≡ true)
+          (λ place r tells has. are.all place (tells key has)) cells kept.told_of;
+      ascending = are.ascending;
+      sound = kept.sound;
+      placed = kept.placed;
+    }
+
+-- ---- All places
+
+-- those of the cells
+abbrev pub places_in : List Cell → List ℕ
+places_in cells = map (λ cell. cell.place) cells
+
+-- each is one of them
+used-all :
+    (cells : List Cell) → AllByRecursion (λ cell. is_used (places_in cells) cell.place ≡ true) cells
+used-all [] = tt
+used-all (cell ∷ cells) = (
+  or_left (eqb cell.place cell.place) (is_used (places_in cells) cell.place)
+      (eq-eqb cell.place cell.place refl),
+  All-weaker (λ found. is_used (places_in cells) found.place ≡ true)
+      (λ found. is_used (cell.place ∷ places_in cells) found.place ≡ true)
+      (λ found used. or_right (eqb cell.place found.place) (is_used (places_in cells) found.place)
+      used) cells (used-all cells),
+)
+
+-- they go up
+places-ascend :
+    (cells : List Cell)
+    → ArePlaced cells
+    → AllPairs (λ earlier later. earlier < later) (places_in cells)
+places-ascend [] placed = λ i j d before inside. absurd (omega (arith, inside))
+places-ascend (cell ∷ cells) placed = λ i j d before inside.
+    let all = cell ∷ cells in
+    let place = λ (cell : Cell). cell.place in
+    let behind : j < length all = omega (arith, length-map all place, inside) in
+    let ahead : i < length all = omega (arith, behind, before) in
+    omega (
+      arith,
+      placed i j cell before behind,
+      get_or-map place all i cell d ahead,
+      get_or-map place all j cell d behind,
+    )
+
+-- by them each record is reached
+pub all-reaches :
+    {R : Type 0} (format : Format R) (test : R → Bool) (cells : List Cell)
+    → AllByRecursion IsSound cells
+    → ArePlaced cells
+    → Reaches format test cells (places_in cells)
+all-reaches format test cells sound placed = record {
+  all = All-weaker (λ cell. is_used (places_in cells) cell.place ≡ true)
+      (λ cell. HoldsIn format
+      (λ r. test r ≡ true → is_used (places_in cells) cell.place ≡ true) cell)
+      (λ cell used. each format test (places_in cells) cell.place used cell.texts)
+      cells (used-all cells);
+  ascending = places-ascend cells placed;
+  sound = sound;
+  placed = placed;
+}
+  where
+    each :
+        {R : Type 0} (format : Format R) (test : R → Bool) (places : List ℕ) (place : ℕ)
+        → is_used places place ≡ true
+        → (texts : List (List ℕ))
+        → AllByRecursion (HoldsOf format (λ r. test r ≡ true → is_used places place ≡ true)) texts
+    each format test places place used [] = tt
+    each format test places place used (text ∷ texts) =
+        ((λ r reads passes. used), each format test places place used texts)
+
+-- ---- Changes
+
+-- a record that lacks the key which a change needs, where one is known, is left
+pub left-lacking :
+    {R : Type 0} (keys_of : R → List ℕ) (f : R → List R) (key : Option ℕ) (r : R)
+    → IfSome key (Needs keys_of f)
+    → has_asked keys_of key r ≡ false
+    → f r ≡ r ∷ []
+left-lacking keys_of f None r needs lacks = absurd cc
+left-lacking keys_of f (Some key) r needs lacks = needs r lacks
+
+-- so a change touches records in the places that its key reaches
+pub key-touches :
+    {R : Type 0} (format : Format R) (keys_of : R → List ℕ) (f : R → List R) (key : Option ℕ)
+    (cells : List Cell) (places : List ℕ)
+    → IfSome key (Needs keys_of f)
+    → Reaches format (has_asked keys_of key) cells places
+    → TouchesAt format f cells places
+key-touches format keys_of f key cells places needs reached = record {
+  test = has_asked keys_of key;
+  others = λ r. left-lacking keys_of f key r needs;
+  reaches = reached;
+}
+
+-- and to change at these places is to change all lines
+pub reached-changes :
+    {R : Type 0} (format : Format R) (f : R → List R) (cells : List Cell)
+    → TellsSame format
+    → (places : List ℕ)
+    → TouchesAt format f cells places
+    → (slice : List ℕ)
+    → slice ≡ places
+    → lines_now (changed_there format f slice cells) ≡ flat_map (becomes format f) (lines_now cells)
+reached-changes format f cells tells places touches slice same =
+    ap (λ slice. lines_now (changed_there format f slice cells)) same
+    ∙ all-changed format f places cells tells touches.reaches.sound
+    (there-weaker format
+    (λ place r. touches.test r ≡ true → is_used places place ≡ true)
+    (λ place r. is_used places place ≡ false → f r ≡ r ∷ [])
+    (λ place r reaches unused.
+    touches.others r
+    (false_from_ne_true (touches.test r) (λ has.
+    let both : true ≡ false = sym (reaches has) ∙ unused in absurd cc)))
+    cells touches.reaches.all)

@@ -1,0 +1,38 @@
+-- Claims: of a table that is there, the lines that are kept are those of its file (`kept-of_file`), and
+-- their records those of the file (`kept-records`); and edits of the lines are those of the file
+-- (`kept-edited`). Way: the file is what the lines make.
+use Rattle.std.proofs.Common.{◌≡◌, ◌∙◌, ℕ, List, sym, ap, subst}
+use Rattle.std.specs.Prelude.{Option, Some, IfSome, option_map}
+use Rattle.acct_text.specs.Lines.{file_bytes}
+use Rattle.account_model.specs.Edits.{Edit, edited_by}
+use Rattle.account_model.specs.Format.{Format, records_of}
+use Rattle.account_model.specs.Tables.{table_after, table_records}
+use Rattle.acct_tables.specs.SeenLines.{AreOfFile}
+use Rattle.line_file.specs.Cells.{lines_now}
+use Rattle.line_file.specs.declared.cell.Cell.{Cell}
+
+module _ (kept : Option (List Cell)) (cells : List Cell) (is : kept ≡ Some cells)
+    (of_file : IfSome kept (λ cells. AreOfFile (lines_now cells))) where
+  -- the lines are those of a file
+  pub kept-of_file : AreOfFile (lines_now cells)
+  kept-of_file = subst (λ kept. IfSome kept (λ cells. AreOfFile (lines_now cells))) is of_file
+
+  module _ {R : Type 0} (format : Format R) (file : Option (List ℕ))
+      (makes : option_map (λ cells. file_bytes (lines_now cells)) kept ≡ file) where
+    -- the file is what they make
+    kept-file : Some (file_bytes (lines_now cells)) ≡ file
+    kept-file =
+        ap (option_map (λ (cells : List Cell). file_bytes (lines_now cells))) (sym is) ∙ makes
+
+    -- the records are those of the file
+    pub kept-records : records_of format (lines_now cells) ≡ table_records format file
+    kept-records = ap (records_of format) (sym kept-of_file) ∙ ap (table_records format) kept-file
+
+    -- the lines after the edits make the file after them
+    pub kept-edited :
+        (edits : List (Edit R))
+        → Some (file_bytes (edited_by format edits (lines_now cells)))
+        ≡ table_after format edits file
+    kept-edited edits =
+        ap (λ found. Some (file_bytes (edited_by format edits found))) (sym kept-of_file)
+        ∙ ap (table_after format edits) kept-file

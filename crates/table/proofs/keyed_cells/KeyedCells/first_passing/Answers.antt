@@ -1,0 +1,20 @@
+use Rattle.std.proofs.Common.{◌∙◌}
+use Rattle.std.specs.Prelude.{Some}
+use Rattle.std.proofs.lemmas.Result.{IfOk-weaker}
+use Rattle.table.specs.TableCells.{has_asked}
+use Rattle.table.proofs.ReachLemmas.{reaches-weaker}
+use Rattle.table.proofs.ReachedRecords.{found-there}
+use Rattle.table.proofs.keyed_cells.KeyedCells.first_passing.Goals as goal
+
+-- the records that pass have the key, so they are among the reached texts
+pub returns : goal.returns
+returns g c =
+    let format = g.R.TableRecord.format in
+    let test = g.T.RecordTest.accepts c.args.test.now in
+    let found = found-there format test
+    c.self.inside.file c.args.self.now c.self.view_is c.self.invariant.placed
+    c.in_ok-places.places.items
+    (reaches-weaker format test (has_asked g.R.KeyedRecord.keys (Some c.in-Some.key))
+    c.args.self.now c.in_ok-places.places.items c.in-Some.ensures c.in_ok-places.ensures)
+    c.as_slice.result.now c.as_slice.ensures.value c.of.result c.of.ensures in
+    IfOk-weaker c.first_accepted.result _ _ (λ item is. is ∙ found) c.first_accepted.ensures

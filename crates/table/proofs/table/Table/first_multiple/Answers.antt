@@ -1,0 +1,17 @@
+use Rattle.std.proofs.Common.{◌∙◌, ap}
+use Rattle.std.proofs.lemmas.Result.{IfOk-weaker}
+use Rattle.account_model.specs.Edits.{first_multiple}
+use Rattle.line_edits.specs.SeenEdits.{seen_edits}
+use Rattle.table.proofs.TableLemmas.{kept-records}
+use Rattle.table.proofs.table.Table.first_multiple.Goals as goal
+
+-- the records of the lines are those of the file
+pub returns-in-Some : goal.returns-in-Some
+returns-in-Some g c =
+    let format = g.R.TableRecord.format in
+    IfOk-weaker c.first_multiple.result _ _ (λ found is.
+    is
+    ∙ ap (first_multiple format (seen_edits g.R.EditedRecord.becomes c.args.edits.now))
+    (kept-records c.self.inside.cells c.in-Some.cells c.in-Some.is c.self.invariant format
+    c.args.self.now c.self.view_is))
+    c.first_multiple.ensures

@@ -1,0 +1,5 @@
+pub mod Accepting
+pub mod TablesOfLines
+pub mod TableEdits
+pub mod TableCells
+pub mod Changed

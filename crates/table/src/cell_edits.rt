@@ -1,0 +1,188 @@
+// Edits of a table's lines where they stand (passwd(5), shadow(5), group(5), gshadow(5), subuid(5),
+// subgid(5)). An edit goes to the places where records may stand that it touches; what it brings there is told before the texts are put.
+ghost use Rattle.std.specs.Prelude.{◌≡◌, ◌<◌, ◌∷◌, [], true, AllPairs, Some, find, option_map, IfOk, OnOk};
+ghost use Rattle.account_model.specs.Edits.{edited, put_first, with_line};
+ghost use Rattle.account_model.specs.Edits as model;
+ghost use Rattle.account_model.specs.RecordEdits.{IsWrittenEdit};
+ghost use Rattle.account_model.specs.Written.{IsWritten};
+ghost use Rattle.line_edits.specs.SeenEdits.{seen_edit};
+ghost use Rattle.line_file.specs.Cells.{lines_now};
+ghost use Rattle.table.specs.Changed.{changed_there};
+ghost use Rattle.table.specs.TableCells.{cells_there, has_named_in};
+
+use crate::keyed_cells::KeyedCells;
+use crate::new_texts::{are_left, changed_texts, texts_with};
+use line_edits::Edit;
+use record_keys::{KeyedRecord, Spot};
+use std::alloc::{AllocError, Global};
+
+impl<R: KeyedRecord + Drop> KeyedCells<R> {
+    /// Carries the edit out. At `AllocError` it may be made in part.
+    pub(crate) fn edit(
+        &mut self,
+        alloc: Global,
+        edit: &Edit<R, R::Change>,
+    ) -> Result<(), AllocError>
+        requires { IsWrittenEdit R.format (seen_edit R.becomes edit.now) }
+        ensures { OnOk result (lines_now self.new
+            ≡ edited R.format (lines_now self.old) (seen_edit R.becomes edit.now)) }
+    {
+        match edit {
+            Edit::Become(change) => self.change(alloc, change),
+            Edit::Add(item) => self.add(alloc, item),
+            Edit::AddMissing(item) => self.add_missing(alloc, item),
+            Edit::Put(item) => self.put(alloc, item),
+        }
+    }
+
+    // Puts in place of each record what becomes of it.
+    fn change(&mut self, alloc: Global, change: &R::Change) -> Result<(), AllocError>
+        requires { IsWrittenEdit R.format (model.Become (R.becomes change.now)) }
+        ensures { OnOk result (lines_now self.new
+            ≡ edited R.format (lines_now self.old) (model.Become (R.becomes change.now))) }
+    {
+        let places = self.touched(alloc, change)?;
+        self.wear(visits::<R>(change, places.len()));
+        self.change_each(alloc, change, places.as_slice())
+    }
+
+    // Notes that an edit comes to so many places by a key.
+    fn wear(&mut self, count: usize)
+        ensures { self.new ≡ self.old }
+    {
+        self.worn = self.worn.saturating_add(count);
+    }
+
+    // Puts in each of the places what becomes of the records there.
+    fn change_each(
+        &mut self,
+        alloc: Global,
+        change: &R::Change,
+        places: &[usize],
+    ) -> Result<(), AllocError>
+        requires written { IsWrittenEdit R.format (model.Become (R.becomes change.now)) }
+        requires ascending { AllPairs (λ earlier later. earlier < later) places.now }
+        ensures { OnOk result (self.new
+            ≡ changed_there R.format (R.becomes change.now) places.now self.old) }
+    {
+        'places: for place in places {
+            self.change_at(alloc, change, *place)?;
+        }
+        Ok(())
+    }
+
+    // Puts in a place what becomes of the records there.
+    fn change_at(
+        &mut self,
+        alloc: Global,
+        change: &R::Change,
+        place: usize,
+    ) -> Result<(), AllocError>
+        requires { IsWrittenEdit R.format (model.Become (R.becomes change.now)) }
+        ensures { OnOk result (self.new
+            ≡ changed_there R.format (R.becomes change.now) (place ∷ []) self.old) }
+    {
+        if self.is_left_at(change, place) {
+            return Ok(());
+        }
+        let Some(cell) = self.file.cell(place) else {
+            return Ok(());
+        };
+        let texts = changed_texts::<R>(alloc, cell.texts, change)?;
+        R::bring(change, Spot::At(place), &mut self.keys);
+        self.file.put(place, texts)
+    }
+
+    // Whether the change surely leaves the records in a place.
+    fn is_left_at(&self, change: &R::Change, place: usize) -> bool
+        ensures { result ≡ true
+            → self.now ≡ changed_there R.format (R.becomes change.now) (place ∷ []) self.now }
+    {
+        match self.file.cell(place) {
+            Some(cell) => are_left::<R>(cell.texts, change),
+            None => true,
+        }
+    }
+
+    // Adds the record behind the last line.
+    fn add(&mut self, alloc: Global, item: &R) -> Result<(), AllocError>
+        requires { IsWritten R.format item.now }
+        ensures { OnOk result (lines_now self.new
+            ≡ with_line (R.format.print item.now) (lines_now self.old)) }
+    {
+        let place = self.file.add(item.print(alloc)?)?;
+        item.note(Spot::At(place), &mut self.keys);
+        Ok(())
+    }
+
+    // The same where no record has its name.
+    fn add_missing(&mut self, alloc: Global, item: &R) -> Result<(), AllocError>
+        requires { IsWritten R.format item.now }
+        ensures { OnOk result (lines_now self.new
+            ≡ edited R.format (lines_now self.old) (model.AddMissing item.now)) }
+    {
+        if self.has(item.name()) {
+            return Ok(());
+        }
+        self.add(alloc, item)
+    }
+
+    // Puts the record in place of the first of its name, or adds it.
+    fn put(&mut self, alloc: Global, item: &R) -> Result<(), AllocError>
+        requires { IsWritten R.format item.now }
+        ensures { OnOk result (lines_now self.new
+            ≡ edited R.format (lines_now self.old) (model.Put item.now)) }
+    {
+        match self.place_named(alloc, item.name())? {
+            Some(place) => self.put_at(alloc, item, place),
+            None => self.add(alloc, item),
+        }
+    }
+
+    // The first place with a record of the name; none where no record has it.
+    fn place_named(&self, alloc: Global, name: &[u8]) -> Result<Option<usize>, AllocError>
+        ensures { IfOk result (λ place. place ≡ option_map (λ cell. cell.place)
+            (find (has_named_in R.format name.now) self.now)) }
+    {
+        let places = self.places_of(alloc, name)?;
+        Ok(self.first_named_of(name, places.as_slice()))
+    }
+
+    // The first of the places with a record of the name.
+    fn first_named_of(&self, name: &[u8], places: &[usize]) -> Option<usize>
+        ensures { result ≡ option_map (λ cell. cell.place)
+            (find (has_named_in R.format name.now) (cells_there self.now places.now)) }
+    {
+        'places: for place in places {
+            if self.has_named_at(name, *place) {
+                return Some(*place);
+            }
+        }
+        None
+    }
+
+    // Puts the record in place of the first of its name, which stands in this place.
+    fn put_at(&mut self, alloc: Global, item: &R, place: usize) -> Result<(), AllocError>
+        requires written { IsWritten R.format item.now }
+        requires first { option_map (λ cell. cell.place)
+            (find (has_named_in R.format (R.format.name item.now)) self.old) ≡ Some place }
+        ensures { OnOk result (lines_now self.new
+            ≡ put_first R.format item.now (lines_now self.old)) }
+    {
+        let Some(cell) = self.file.cell(place) else {
+            return Ok(());
+        };
+        let texts = texts_with(alloc, cell.texts, item)?;
+        item.note(Spot::At(place), &mut self.keys);
+        self.file.put(place, texts)
+    }
+}
+
+// How many of so many places a change comes to by a key or a name.
+fn visits<R: KeyedRecord>(change: &R::Change, places: usize) -> usize {
+    if R::needed(change).is_some() || R::touched_names(change).is_some() {
+        places
+    } else {
+        0
+    }
+}

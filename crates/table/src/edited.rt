@@ -1,0 +1,61 @@
+// The lines of a table after edits (passwd(5), shadow(5), group(5), gshadow(5), subuid(5), subgid(5)).
+ghost use Rattle.std.specs.Prelude.{◌≡◌, IfOk};
+ghost use Rattle.account_model.specs.Edits.{edited, edited_by};
+ghost use Rattle.account_model.specs.RecordEdits.{IsWrittenEdit};
+ghost use Rattle.acct_tables.specs.SeenLines.{AreOfFile};
+ghost use Rattle.line_edits.specs.SeenEdits.{seen_edit, seen_edits};
+ghost use Rattle.line_file.specs.Cells.{lines_now};
+ghost use Rattle.table.specs.TableEdits.{AreWritten};
+
+use crate::keyed_cells::KeyedCells;
+use line_edits::Edit;
+use record_keys::KeyedRecord;
+use std::alloc::{AllocError, Global};
+
+/// The lines after the edits, in their order. At `AllocError` there are none.
+pub(crate) fn edited<R: KeyedRecord + Drop>(
+    alloc: Global,
+    mut cells: KeyedCells<R>,
+    edits: &[Edit<R, R::Change>],
+) -> Result<KeyedCells<R>, AllocError>
+    requires of_file { AreOfFile (lines_now cells) }
+    requires written { AreWritten R.format R.becomes edits.now }
+    ensures edited { IfOk result (λ made. lines_now made
+        ≡ edited_by R.format (seen_edits R.becomes edits.now) (lines_now cells)) }
+    ensures of_file { IfOk result (λ made. AreOfFile (lines_now made)) }
+{
+    'edits: for edit in edits {
+        cells = edited_once(alloc, cells, edit)?;
+    }
+    Ok(cells)
+}
+
+// The lines after one edit.
+fn edited_once<R: KeyedRecord + Drop>(
+    alloc: Global,
+    mut cells: KeyedCells<R>,
+    edit: &Edit<R, R::Change>,
+) -> Result<KeyedCells<R>, AllocError>
+    requires of_file { AreOfFile (lines_now cells) }
+    requires written { IsWrittenEdit R.format (seen_edit R.becomes edit.now) }
+    ensures { IfOk result (λ made. lines_now made
+        ≡ edited R.format (lines_now cells) (seen_edit R.becomes edit.now)) }
+{
+    cells.edit(alloc, edit)?;
+    renewed(alloc, cells)
+}
+
+// The same lines, made anew from their bytes where it is time.
+fn renewed<R: KeyedRecord + Drop>(
+    alloc: Global,
+    cells: KeyedCells<R>,
+) -> Result<KeyedCells<R>, AllocError>
+    requires { AreOfFile (lines_now cells) }
+    ensures { IfOk result (λ made. lines_now made ≡ lines_now cells) }
+{
+    if !cells.is_worn() {
+        return Ok(cells);
+    }
+    let text = cells.text()?;
+    KeyedCells::of(alloc, text.as_slice())
+}
