@@ -1,8 +1,8 @@
 // The calls, bytes and syncs of one command on DIR/etc, and nothing else: what the disk and the kernel
 // cost. It takes the locks, reads login.defs and the six tables, changes those that are named by a copy
-// of their last line, as a commit does (docs/OPERATING.md), and frees the lock; as a report it reads them
-// between two listings, without a lock; given DIR alone it only reads. bench/run sets its time beside that
-// of the program. usage: floor DIR [report | lock [TABLE..]]
+// of their last line, as a commit does (docs/OPERATING.md), and frees the lock; as a report it reads those
+// that are named between two listings, without a lock; given DIR alone it only reads. bench/run sets its
+// time beside that of the program. usage: floor DIR [report TABLE.. | lock [TABLE..]]
 #define _GNU_SOURCE
 #include <dirent.h>
 #include <fcntl.h>
@@ -13,16 +13,16 @@
 #include <sys/stat.h>
 #include <unistd.h>
 
-enum { TABLES = 6, FIRST_READ = 512 };
+enum { TABLES = 6, FIRST_READ = 8192, UNSIZED = 512 };
 
 struct text {
     char *bytes;
-    size_t size, room;
+    size_t size;
 };
 
 static const char *names[TABLES] = {"passwd", "shadow", "group", "gshadow", "subuid", "subgid"};
 static struct text tables[TABLES], changed[TABLES];
-static int is_changed[TABLES];
+static int is_named[TABLES];
 static int folder;
 
 static void must(int is_done, const char *what) {
@@ -32,21 +32,20 @@ static void must(int is_done, const char *what) {
     }
 }
 
-// Reads of a size that doubles until the end, as the library of the program makes them.
+// Into room for the file and a byte, by reads of a size that doubles, as the library of the program does.
 static struct text load(int at, const char *name, int flags) {
     struct text text = {0};
-    struct stat about;
+    struct stat about = {0};
     if (at == folder && fstatat(at, name, &about, flags) < 0)
         return text;
     int file = openat(at, name, O_RDONLY | O_CLOEXEC);
     must(file >= 0, name);
+    size_t room = about.st_size > 0 ? about.st_size + 1 : UNSIZED;
+    text.bytes = malloc(room);
     ssize_t got = 1;
-    while (got > 0) {
-        if (text.size == text.room) {
-            text.room = text.room ? 2 * text.room : FIRST_READ;
-            text.bytes = realloc(text.bytes, text.room);
-        }
-        got = read(file, text.bytes + text.size, text.room - text.size);
+    for (size_t most = FIRST_READ; got > 0; most *= 2) {
+        size_t left = room - text.size;
+        got = read(file, text.bytes + text.size, left < most ? left : most);
         must(got >= 0, name);
         text.size += got;
     }
@@ -161,10 +160,11 @@ static int take_lock(void) {
     return file;
 }
 
-static void read_all(void) {
+static void read_tables(int are_all) {
     load(folder, "accounts.intent", AT_SYMLINK_NOFOLLOW);
     for (int i = 0; i < TABLES; i++)
-        tables[i] = load(folder, names[i], AT_SYMLINK_NOFOLLOW);
+        if (are_all || is_named[i])
+            tables[i] = load(folder, names[i], AT_SYMLINK_NOFOLLOW);
     load(folder, "login.defs", 0);
 }
 
@@ -173,7 +173,7 @@ static struct text longer(struct text old) {
     size_t start = old.size > 0 ? old.size - 1 : 0;
     while (start > 0 && old.bytes[start - 1] != '\n')
         start--;
-    struct text text = {malloc(old.size + (old.size - start)), old.size, 0};
+    struct text text = {malloc(old.size + (old.size - start)), old.size};
     memcpy(text.bytes, old.bytes, old.size);
     memcpy(text.bytes + old.size, old.bytes + start, old.size - start);
     text.size += old.size - start;
@@ -196,7 +196,7 @@ static void commit(void) {
     char *intent = malloc(size + 1);
     size = 0;
     for (int i = 0; i < TABLES; i++) {
-        if (is_changed[i])
+        if (is_named[i])
             memcpy(intent + size, changed[i].bytes, changed[i].size);
         size += changed[i].size;
     }
@@ -215,11 +215,11 @@ static void install(int i) {
 
 static void change(void) {
     for (int i = 0; i < TABLES; i++)
-        if (is_changed[i])
+        if (is_named[i])
             back_up(i);
     commit();
     for (int i = 0; i < TABLES; i++)
-        if (is_changed[i])
+        if (is_named[i])
             install(i);
     sync_folder();
     unlinkat(folder, "accounts.intent", 0);
@@ -244,23 +244,25 @@ int main(int count, char **words) {
     folder = open(path, O_RDONLY | O_DIRECTORY);
     must(folder >= 0, path);
     if (count == 2) {
-        read_all();
+        read_tables(1);
         return 0;
     }
+    for (int i = 0; i < TABLES; i++)
+        for (int word = 3; word < count; word++)
+            is_named[i] |= strcmp(words[word], names[i]) == 0;
     begin();
     list();
     if (strcmp(words[2], "report") == 0) {
-        read_all();
+        read_tables(0);
         list();
         return 0;
     }
     int shadow_locks = take_shadow_locks();
     int lock = take_lock();
-    read_all();
+    read_tables(1);
     for (int i = 0; i < TABLES; i++)
-        for (int word = 3; word < count; word++)
-            if (strcmp(words[word], names[i]) == 0)
-                is_changed[i] = 1, changed[i] = longer(tables[i]);
+        if (is_named[i])
+            changed[i] = longer(tables[i]);
     if (count > 3)
         change();
     free_lock(lock, shadow_locks);
