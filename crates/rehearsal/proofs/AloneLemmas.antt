@@ -35,7 +35,7 @@ use Rattle.account_model.specs.Words.{Asks}
 use Rattle.account_model.specs.Answer.{AnswerCause, Unusable, Refused as ModelRefused, RefusedLine as ModelRefusedLine, Same as ModelSame, Changed as ModelChanged, deed, is_faulty_batch, new_files}
 use Rattle.account_model.proofs.AsksLaws.{asks_iff_read}
 use Rattle.account_model.proofs.SeenLemmas.{sees-all}
-use Rattle.rehearsal.proofs.ReportStays.{report-stays}
+use Rattle.suite_session.proofs.ReportStays.{report-stays}
 use Rattle.suite_rules.specs.Deeds.{SuiteDeeds}
 use Rattle.suite_rules.specs.Lawful.{Lawful}
 use Rattle.suite_rules.specs.Settled.{settled}

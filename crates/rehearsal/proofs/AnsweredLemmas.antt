@@ -33,7 +33,7 @@ use Rattle.rehearsal.specs.declared.course.Reached.{Reached}
 use Rattle.rehearsal.specs.Answered.{is_changed}
 use Rattle.rehearsal.specs.Course.{after_read, rehearsal_day}
 use Rattle.rehearsal.specs.Images.{IsAnswered}
-use Rattle.rehearsal.proofs.ReportStays.{report-stays}
+use Rattle.suite_session.proofs.ReportStays.{report-stays}
 
 -- a source with nothing left gives no input
 no-input : (tool : Tool) (before now : Supplies) (input : Bytes) (day : ℕ) →

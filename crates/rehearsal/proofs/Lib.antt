@@ -1,4 +1,3 @@
-mod ReportStays
 pub mod AloneLemmas
 pub mod TwiceLemmas
 pub mod TogetherLemmas

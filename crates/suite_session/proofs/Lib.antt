@@ -34,7 +34,7 @@ mod RecoveringTurns
 mod ReportMeeting
 pub mod ReportProblems
 mod ReportReads
-mod ReportStays
+pub mod ReportStays
 mod ReportingTurns
 mod RuleLemmas
 mod SessionTurns
