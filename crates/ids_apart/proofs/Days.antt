@@ -42,9 +42,8 @@ useradd-alike :
     (new_shadow request settings day) uid gid)
     ≡ without_hashes (useradd_script request files (plan_of request files settings)
     (new_shadow request settings 0) uid gid)
-useradd-alike request files settings day None gid = refl
-useradd-alike request files settings day (Some uid) None = refl
 useradd-alike request files settings day (Some uid) (Some gid) = refl
+useradd-alike request files settings day uid gid = refl
 
 -- the lines of chpasswd
 lines-alike :
