@@ -1,5 +1,5 @@
--- Claim: groupadd leaves ranges (`groupadd-ranges`), and gives a GID that no group has, but where `-o` names it
--- (`groupadd-ids`). Way: a given GID that is taken is refused, or with `-f` another is chosen; a chosen one isn't used.
+-- Claim: groupadd leaves ranges, and gives a GID that no group has, but where `-o` names it
+-- (`groupadd-apart`). Way: a given GID that is taken is refused, or with `-f` another is chosen; a chosen one isn't used.
 use Rattle.std.proofs.Common.{◌≡◌, ℕ, Bool, true, false, not, ◌&&◌, List, [], ◌∷◌, ◌++◌, refl, sym, subst}
 use Rattle.std.specs.Prelude.{Option, Some, None, codes, is_some, option_and_then, if◌then◌else◌}
 use Rattle.std.proofs.lemmas.Bool.{eqb-true}

@@ -1,5 +1,5 @@
--- Claim: useradd gives a user ranges that meet none (`useradd-ranges`), a UID that no user has, but where `-o` names it,
--- and a group with a GID that no group has (`useradd-ids`). Way: a given UID that is in use is refused, and a chosen ID
+-- Claim: useradd gives a user ranges that meet none, a UID that no user has, but where `-o` names it, and a group with a
+-- GID that no group has (`useradd-apart`). Way: a given UID that is in use is refused, and a chosen ID
 -- isn't used; a range begins where it fits.
 use Rattle.std.proofs.Common.{◌≡◌, zero, suc, ℕ, ◌+◌, ◌-◌, ◌<◌, Bool, true, false, not, ◌&&◌, List, [], ◌∷◌, ◌++◌, refl, sym, ◌∙◌, ap, subst, arith, append-nil}
 use Rattle.std.specs.Prelude.{Option, Some, None, ◌==◌, codes, is_some, map, option_and_then, if◌then◌else◌}

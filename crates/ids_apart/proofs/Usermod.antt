@@ -1,5 +1,5 @@
--- Claim: usermod keeps ranges apart (`usermod-ranges`), and gives no UID to one more user, but where `-o` names it
--- (`usermod-ids`). Way: the hash comes first and keeps all; a UID of `-u` that another user has is refused, and so is a user whose name
+-- Claim: usermod keeps ranges apart, and gives no UID to one more user, but where `-o` names it
+-- (`usermod-apart`). Way: the hash comes first and keeps all; a UID of `-u` that another user has is refused, and so is a user whose name
 -- stands twice.
 use Rattle.std.proofs.Common.{◌≡◌, ℕ, Bool, true, false, not, ◌&&◌, ◌||◌, List, [], ◌∷◌, ◌++◌, refl, sym, ◌∙◌, ap, subst, inl, inr, append-nil}
 use Rattle.std.specs.Prelude.{◌⊎◌, Option, Some, None, ◌==◌, codes, option_map, option_and_then, unwrap_or, if◌then◌else◌}
