@@ -122,13 +122,10 @@ pieces-held :
     (pieces : List (List ℕ)) (found : Option ℕ)
     → read_date_pieces pieces ≡ Ok found
     → IsDaysNumber found
-pieces-held [] found e = cc
-pieces-held (year ∷ []) found e = cc
-pieces-held (year ∷ month ∷ []) found e = cc
 pieces-held (year ∷ month ∷ day ∷ []) found e =
     pieces-by year month day found (are_digits 4 year && are_digits 2 month
     && are_digits 2 day) refl e
-pieces-held (year ∷ month ∷ day ∷ more ∷ rest) found e = cc
+pieces-held pieces found e = cc
 
 -- the number of a day
 number-by :

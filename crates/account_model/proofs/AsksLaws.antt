@@ -11,7 +11,7 @@ use Rattle.std.proofs.lemmas.Slice.Eq.{bytes_eq-Decides}
 use Rattle.account_model.specs.declared.words_of.WordsOf.{WordsOf}
 use Rattle.account_model.specs.declared.words_of.WordsOf.TheVariants.{Command, Line}
 use Rattle.account_model.specs.declared.tool.Tool.{Tool}
-use Rattle.account_model.specs.declared.tool.Tool.TheVariants.{Useradd, Usermod, Userdel, Groupadd, Groupmod, Groupdel, Gpasswd, Chage, Chpasswd, Pwck, Grpck, Getsubids, Batch}
+use Rattle.account_model.specs.declared.tool.Tool.TheVariants.{Useradd}
 use Rattle.account_model.specs.declared.word_fault.WordFault.{WordFault}
 use Rattle.account_model.specs.declared.word_fault.WordFault.TheVariants.{TooFew}
 use Rattle.account_model.specs.declared.given.Given.{Given}
@@ -25,21 +25,10 @@ use Rattle.account_model.proofs.ReadIsSpelled.{IsReading, read_is_spelled}
 
 -- ---- The tools and their tables
 
--- no tool has an option `-` or an option with an empty long name
+-- no tool has an option `-` or an option with an empty long name; the last line stands for each other tool
 pub is_table : (tool : Tool) → IsTable (option_forms tool)
 is_table Useradd = record { letters = refl; names = refl }
-is_table Usermod = record { letters = refl; names = refl }
-is_table Userdel = record { letters = refl; names = refl }
-is_table Groupadd = record { letters = refl; names = refl }
-is_table Groupmod = record { letters = refl; names = refl }
-is_table Groupdel = record { letters = refl; names = refl }
-is_table Gpasswd = record { letters = refl; names = refl }
-is_table Chage = record { letters = refl; names = refl }
-is_table Chpasswd = record { letters = refl; names = refl }
-is_table Pwck = record { letters = refl; names = refl }
-is_table Grpck = record { letters = refl; names = refl }
-is_table Getsubids = record { letters = refl; names = refl }
-is_table Batch = record { letters = refl; names = refl }
+is_table tool = record { letters = refl; names = refl }
 
 -- a table without its first option is one too
 pub table-behind :
@@ -68,18 +57,7 @@ is_table_for Line tool =
 -- a tool's name names it
 pub tool_of_its_name : (tool : Tool) → tool_named (tool_name tool) ≡ Some tool
 tool_of_its_name Useradd = refl
-tool_of_its_name Usermod = refl
-tool_of_its_name Userdel = refl
-tool_of_its_name Groupadd = refl
-tool_of_its_name Groupmod = refl
-tool_of_its_name Groupdel = refl
-tool_of_its_name Gpasswd = refl
-tool_of_its_name Chage = refl
-tool_of_its_name Chpasswd = refl
-tool_of_its_name Pwck = refl
-tool_of_its_name Grpck = refl
-tool_of_its_name Getsubids = refl
-tool_of_its_name Batch = refl
+tool_of_its_name tool = refl
 
 -- what is found passes the test
 pub found_passes :

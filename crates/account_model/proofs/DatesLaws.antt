@@ -1,5 +1,5 @@
 -- The date of a day is a date of the calendar from 1970 on, and its day is that day.
-use Rattle.std.proofs.Common.{◌≡◌, ℕ, zero, suc, ◌+◌, ◌-◌, ◌≤◌, ◌<◌, Bool, true, false, ◌&&◌, refl, ap, sym, subst, ◌∙◌, arith, inl, inr}
+use Rattle.std.proofs.Common.{◌≡◌, ℕ, zero, suc, ◌+◌, ◌-◌, ◌≤◌, ◌<◌, Bool, true, ◌&&◌, refl, ap, sym, subst, ◌∙◌, arith, inl, inr}
 use Rattle.std.specs.Prelude.{nat_lt, nat_le}
 use Rattle.std.proofs.lemmas.Bool.{cases_Bool, ltb-true, ltb-false, leb-true, le-leb}
 use Rattle.account_model.specs.Dates.{Date, is_date, IsCounted, is_leap_year, days_in_year, days_in_month, days_of_years, days_of_months, day_of, date_in_month, date_in_year, date_of}
@@ -302,10 +302,7 @@ pub four_of :
     → (a && b && c && d) ≡ true
     → (a ≡ true) × (b ≡ true) × (c ≡ true) × (d ≡ true)
 four_of true true true true e = (refl, refl, refl, refl)
-four_of true true true false e = absurd (cc)
-four_of true true false d e = absurd (cc)
-four_of true false c d e = absurd (cc)
-four_of false b c d e = absurd (cc)
+four_of a b c d e = absurd (cc)
 
 -- a date passes the tests
 pub date_parts : (date : Date) → is_date date ≡ true → AreDateParts date

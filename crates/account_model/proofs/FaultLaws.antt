@@ -15,15 +15,13 @@ use Rattle.account_model.specs.Faults.{field_at, fields_fault, is_days_text, is_
 
 -- a record of passwd is there exactly where no field of it has a fault, by what these read as
 passwd-at :
-    (name password comment home shell : List ℕ) (u g : Option ℕ)
+    (password comment home shell : List ℕ) (u g : Option ℕ) (name : List ℕ)
     → is_some (passwd_with name password u g comment home shell)
     ≡ is_none (first_some ((if is_some u then None else Some (BadNumber 3))
     ∷ (if is_some g then None else Some (BadNumber 4))
     ∷ (if is_empty name then Some EmptyName else None) ∷ None ∷ []))
-passwd-at name password comment home shell None g = refl
-passwd-at name password comment home shell (Some u) None = refl
-passwd-at [] password comment home shell (Some u) (Some g) = refl
-passwd-at (b ∷ name) password comment home shell (Some u) (Some g) = refl
+passwd-at password comment home shell (Some u) (Some g) [] = refl
+passwd-at password comment home shell u g name = refl
 
 -- pieces are a record of passwd exactly where they have no fault
 passwd-by :
@@ -31,7 +29,7 @@ passwd-by :
     → is_some (passwd_of_fields pieces) ≡ is_none
     (fields_fault 7 ((3, is_id) ∷ (4, is_id) ∷ []) None pieces)
 passwd-by (name ∷ password ∷ uid ∷ gid ∷ comment ∷ home ∷ shell ∷ []) =
-    passwd-at name password comment home shell (read_id uid) (read_id gid)
+    passwd-at password comment home shell (read_id uid) (read_id gid) name
 passwd-by pieces = rw (ne_eqb (length pieces) 7 (λ e. omega (arith, e))) refl
 
 -- a text is a record of passwd exactly where it has no fault
@@ -42,7 +40,7 @@ passwd-fault text = passwd-by (cut_at colon text)
 
 -- a record of shadow is there exactly where no field of it has a fault, by what these read as
 shadow-at :
-    (name hash rest : List ℕ) (a b c d e f : Option (Option ℕ))
+    (hash rest : List ℕ) (a b c d e f : Option (Option ℕ)) (name : List ℕ)
     → is_some (shadow_with name hash a b c d e f rest)
     ≡ is_none (first_some ((if is_some a then None else Some (BadNumber 3))
     ∷ (if is_some b then None else Some (BadNumber 4))
@@ -51,14 +49,8 @@ shadow-at :
     ∷ (if is_some e then None else Some (BadNumber 7))
     ∷ (if is_some f then None else Some (BadNumber 8))
     ∷ (if is_empty name then Some EmptyName else None) ∷ None ∷ []))
-shadow-at name hash rest None b c d e f = refl
-shadow-at name hash rest (Some a) None c d e f = refl
-shadow-at name hash rest (Some a) (Some b) None d e f = refl
-shadow-at name hash rest (Some a) (Some b) (Some c) None e f = refl
-shadow-at name hash rest (Some a) (Some b) (Some c) (Some d) None f = refl
-shadow-at name hash rest (Some a) (Some b) (Some c) (Some d) (Some e) None = refl
-shadow-at [] hash rest (Some a) (Some b) (Some c) (Some d) (Some e) (Some f) = refl
-shadow-at (x ∷ name) hash rest (Some a) (Some b) (Some c) (Some d) (Some e) (Some f) = refl
+shadow-at hash rest (Some a) (Some b) (Some c) (Some d) (Some e) (Some f) [] = refl
+shadow-at hash rest a b c d e f name = refl
 
 -- pieces are a record of shadow exactly where they have no fault
 shadow-by :
@@ -68,8 +60,8 @@ shadow-by :
     ∷ (6, is_days_text) ∷ (7, is_days_text) ∷ (8, is_days_text) ∷ []) None pieces)
 shadow-by (name ∷ hash ∷ last_change ∷ minimum ∷ maximum ∷ warning ∷ inactive
     ∷ expiration ∷ rest ∷ []) =
-    shadow-at name hash rest (read_days last_change) (read_days minimum) (read_days maximum)
-    (read_days warning) (read_days inactive) (read_days expiration)
+    shadow-at hash rest (read_days last_change) (read_days minimum) (read_days maximum)
+    (read_days warning) (read_days inactive) (read_days expiration) name
 shadow-by pieces = rw (ne_eqb (length pieces) 9 (λ e. omega (arith, e))) refl
 
 -- a text is a record of shadow exactly where it has no fault
@@ -129,10 +121,8 @@ subid-tests : (owner : List ℕ) (f n : ℕ) (none small : Bool)
     else Some (record { owner = owner; first = f; count = n }))
     ≡ is_none (first_some (None ∷ None ∷ (if is_empty owner then Some EmptyName else None)
     ∷ (if none || not small then Some BadRange else None) ∷ []))
-subid-tests [] f n none small = refl
-subid-tests (b ∷ owner) f n true small = refl
 subid-tests (b ∷ owner) f n false true = refl
-subid-tests (b ∷ owner) f n false false = refl
+subid-tests owner f n none small = refl
 
 -- a record of subuid or subgid is there exactly where no field of it has a fault, by what these read as
 subid-at :

@@ -9,7 +9,6 @@ pub mod DeedLaws
 pub mod RefusalFacts
 pub mod WrittenScripts
 pub mod MemberLaws
-pub mod RenamedRecords
 pub mod SettingBounds
 pub mod GroupToolScripts
 pub mod AgingToolScripts

@@ -1,11 +1,12 @@
 -- What goes to the error stream, and with which status, for words without a request.
 use Prim.Native.String.{String}
-use Rattle.std.specs.Prelude.{◌≡◌, ℕ, ◌==◌, List, [], ◌∷◌, ◌++◌, replicate, codes, refl, Option, Some, None}
+use Rattle.std.specs.Prelude.{◌≡◌, true, false, ℕ, ◌==◌, List, [], ◌∷◌, ◌++◌, replicate, codes, refl, Option, Some, None}
 use Rattle.std.specs.List.{slice_split}
 use Rattle.std.specs.Fmt.{digits}
 use Rattle.acct_text.specs.Bytes.{newline}
+use Rattle.account_model.specs.declared.tool.Tool.TheVariants.{Useradd, Groupmod}
 use Rattle.account_model.specs.Words.{fault}
-use Rattle.account_model.specs.WordMessages.{word_fault_status, word_fault_message}
+use Rattle.account_model.specs.WordMessages.{is_for_wrapper, word_fault_status, word_fault_message}
 
 -- a status and a line
 pub record Told : Type 0 where
@@ -57,6 +58,19 @@ wrapped_option :
     "userdel: unknown option in word 1: --remove (the wrapper by the old names has it)"
 unfolding digits
 wrapped_option = refl
+
+-- by its letter, with a value, in a group behind a flag, and by its long name
+wrapped_spellings :
+    (is_for_wrapper Groupmod (codes "-U") ≡ true)
+    × (is_for_wrapper Groupmod (codes "-Uann,bea") ≡ true)
+    × (is_for_wrapper Groupmod (codes "-oaU") ≡ true)
+    × (is_for_wrapper Groupmod (codes "--users=ann") ≡ true)
+    × (is_for_wrapper Useradd (codes "--badname") ≡ true)
+wrapped_spellings = (refl, refl, refl, refl, refl)
+
+-- not where the letter before it is unknown to the wrapper too
+unwrapped_spelling : is_for_wrapper Useradd (codes "-xm") ≡ false
+unwrapped_spelling = refl
 
 missing_value : tell (words "gpasswd sudo -P") ≡ told 2 "gpasswd: option in word 2 needs a value"
 unfolding digits

@@ -169,7 +169,7 @@ command-spares request input day files settings =
     outcome-spares (named_by request.tool request input files)
     (action_of request input day files settings)
     (outcome_of (action_of request input day files settings) files)
-    (tool-spares request.tool request input day files settings)
+    (tool-spares request input day files settings request.tool)
 
 -- and so do those of the commands of a batch
 lines-spare :

@@ -14,7 +14,7 @@ use Rattle.account_model.specs.declared.records.SubidRecord.{SubidRecord}
 use Rattle.acct_text.proofs.NumberLaws.{some-inj}
 use Rattle.account_model.specs.Text.{is_listed}
 use Rattle.account_model.specs.Format.{Format, is_named, find_named}
-use Rattle.account_model.specs.Edits.{Edit, Become, Add, AddMissing, Put, Arrange, becoming_touches, drop_where, each_where, touches}
+use Rattle.account_model.specs.Edits.{Edit, Become, Put, becoming_touches, drop_where, each_where, touches}
 use Rattle.account_model.specs.Members.{without_name}
 use Rattle.account_model.specs.Records.{passwd_format, shadow_format, group_format, gshadow_format, subid_format}
 use Rattle.account_model.specs.RecordEdits.{TellsSame}
@@ -33,9 +33,7 @@ use Rattle.account_model.proofs.SameLaws.{passwd-tells, shadow-tells, group-tell
 abbrev pub Spares : {R : Type 0} → Format R → R → Edit R → Type 0
 Spares format r (Become f) = f r ≡ r ∷ []
 Spares format r (Put s) = is_named format (format.name s) r ≡ false
-Spares format r (Add s) = ⊤
-Spares format r (AddMissing s) = ⊤
-Spares format r (Arrange key) = ⊤
+Spares format r edit = ⊤
 
 -- a record that stays is touched where later edits touch it
 same-by : (same later : Bool) → same ≡ true → later ≡ false → (not same || later) ≡ false
@@ -57,9 +55,7 @@ spared {R} format tells (Become f ∷ edits) r all =
 spared format tells (Put s ∷ edits) r all =
     or_from (is_named format (format.name s) r) (touches format edits r) all.0
     (spared format tells edits r all.1)
-spared format tells (Add s ∷ edits) r all = spared format tells edits r all.1
-spared format tells (AddMissing s ∷ edits) r all = spared format tells edits r all.1
-spared format tells (Arrange key ∷ edits) r all = spared format tells edits r all.1
+spared format tells (edit ∷ edits) r all = spared format tells edits r all.1
 
 -- where the records that pass a test become others, one that fails it stays
 pub where-spares :

@@ -7,7 +7,7 @@ use Rattle.acct_text.specs.declared.files.Files.{Files}
 use Rattle.acct_text.specs.Lines.{Line, lines_of}
 use Rattle.account_model.specs.declared.records.GroupRecord.{GroupRecord}
 use Rattle.account_model.specs.declared.tool.Tool.{Tool}
-use Rattle.account_model.specs.declared.tool.Tool.TheVariants.{Useradd, Usermod, Userdel, Groupadd, Groupmod, Groupdel, Gpasswd, Chage, Chpasswd, Pwck, Grpck, Getsubids, Batch}
+use Rattle.account_model.specs.declared.tool.Tool.TheVariants.{Useradd, Usermod, Userdel, Groupadd, Groupmod, Groupdel, Gpasswd, Chage, Chpasswd, Pwck, Grpck}
 use Rattle.account_model.specs.Text.{is_listed}
 use Rattle.account_model.specs.Format.{is_named}
 use Rattle.account_model.specs.Records.{passwd_format, shadow_format, subid_format}
@@ -340,32 +340,27 @@ grpck-by files false = none-spare names_nothing
 
 -- ---- The claim
 
-pub tool-spares :
-    (tool : Tool) (request : Request) (input : List ℕ) (day : ℕ) (files : Files)
-    (settings : List Setting)
-    → SparesUnnamed (named_by tool request input files)
-    (action_by tool request input day files settings).script
-tool-spares Useradd request input day files settings =
-    useradd-spares request files (settings_for request settings) day
-tool-spares Usermod request input day files settings = usermod-spares request files day
-tool-spares Userdel request input day files settings = userdel-spares request files settings
-tool-spares Groupadd request input day files settings =
-    groupadd-by request files settings (is_content (operand request) request files)
-tool-spares Groupmod request input day files settings = groupmod-spares request files
-tool-spares Groupdel request input day files settings =
-    removed-spares (named_by Groupdel request input files) (operand request)
-    (first-has (operand request) [])
-tool-spares Gpasswd request input day files settings = gpasswd-spares request files
-tool-spares Chage request input day files settings =
-    chage-by request files (aging_report (aging_of (operand request) files))
-    (has_option (codes "l") request)
-tool-spares Chpasswd request input day files settings =
-    let named = named_by Chpasswd request input files
-    in order-spares named (map (line_script files day) (lines_of input))
-    (lines-spare-all named files day (lines_of input) (λ name none. none))
-tool-spares Pwck request input day files settings =
-    pwck-by request files day (has_option (codes "s") request)
-tool-spares Grpck request input day files settings =
-    grpck-by files (has_option (codes "s") request)
-tool-spares Getsubids request input day files settings = none-spare names_nothing
-tool-spares Batch request input day files settings = none-spare names_nothing
+module _ (request : Request) (input : List ℕ) (day : ℕ) (files : Files)
+    (settings : List Setting) where
+  pub tool-spares :
+      (tool : Tool)
+      → SparesUnnamed (named_by tool request input files)
+      (action_by tool request input day files settings).script
+  tool-spares Useradd = useradd-spares request files (settings_for request settings) day
+  tool-spares Usermod = usermod-spares request files day
+  tool-spares Userdel = userdel-spares request files settings
+  tool-spares Groupadd =
+      groupadd-by request files settings (is_content (operand request) request files)
+  tool-spares Groupmod = groupmod-spares request files
+  tool-spares Groupdel = removed-spares (named_by Groupdel request input files) (operand request)
+      (first-has (operand request) [])
+  tool-spares Gpasswd = gpasswd-spares request files
+  tool-spares Chage = chage-by request files (aging_report (aging_of (operand request) files))
+      (has_option (codes "l") request)
+  tool-spares Chpasswd =
+      let named = named_by Chpasswd request input files
+      in order-spares named (map (line_script files day) (lines_of input))
+      (lines-spare-all named files day (lines_of input) (λ name none. none))
+  tool-spares Pwck = pwck-by request files day (has_option (codes "s") request)
+  tool-spares Grpck = grpck-by files (has_option (codes "s") request)
+  tool-spares tool = none-spare names_nothing

@@ -12,7 +12,7 @@ use Rattle.account_model.specs.declared.records.ShadowRecord.{ShadowRecord}
 use Rattle.account_model.specs.declared.records.GroupRecord.{GroupRecord}
 use Rattle.account_model.specs.declared.refusal.Refusal.{Refusal}
 use Rattle.account_model.specs.declared.tool.Tool.{Tool}
-use Rattle.account_model.specs.declared.tool.Tool.TheVariants.{Useradd, Usermod, Userdel, Groupadd, Groupmod, Groupdel, Gpasswd, Chage, Chpasswd, Pwck, Grpck, Getsubids, Batch}
+use Rattle.account_model.specs.declared.tool.Tool.TheVariants.{Useradd, Usermod, Userdel, Groupadd, Groupmod, Groupdel, Gpasswd, Chage, Chpasswd, Pwck, Grpck}
 use Rattle.account_model.specs.Edits.{Add, Put}
 use Rattle.account_model.specs.Tables.{Script, no_edits, files_after}
 use Rattle.account_model.specs.TouchedLines.{KeepsOrder}
@@ -315,37 +315,31 @@ grpck-by :
 grpck-by files true is = absurd (cc is)
 grpck-by files false is = none-order
 
--- each tool
-tool-order :
-    (tool : Tool) (request : Request) (input : List ℕ) (day : ℕ) (files : Files)
-    (settings : List Setting)
-    → sorts_by tool request ≡ false
-    → KeepOrder (action_by tool request input day files settings).script
-tool-order Useradd request input day files settings is =
-    let under = settings_for request settings
-    in useradd-order request files (plan_of request files under) (new_shadow request under day)
-    (plan_of request files under).uid (plan_of request files under).gid
-tool-order Usermod request input day files settings is = usermod-order request files day
-tool-order Userdel request input day files settings is = userdel-order request files settings
-tool-order Groupadd request input day files settings is =
-    groupadd-by request files settings (is_content (operand request) request files)
-tool-order Groupmod request input day files settings is =
-    groupmod-order (operand request) request files
-tool-order Groupdel request input day files settings is = groups-order _ _ tt tt
-tool-order Gpasswd request input day files settings is =
-    gpasswd-order (operand request) request files
-tool-order Chage request input day files settings is =
-    chage-by request files (aging_report (aging_of (operand request) files))
-    (has_option (codes "l") request)
-tool-order Chpasswd request input day files settings is =
-    all-order (map (line_script files day) (lines_of input))
-    (chpasswd-order files day (lines_of input))
-tool-order Pwck request input day files settings is =
-    pwck-by request files day (has_option (codes "s") request) is
-tool-order Grpck request input day files settings is =
-    grpck-by files (has_option (codes "s") request) is
-tool-order Getsubids request input day files settings is = none-order
-tool-order Batch request input day files settings is = none-order
+module _ (request : Request) (input : List ℕ) (day : ℕ) (files : Files)
+    (settings : List Setting) where
+  -- each tool
+  tool-order :
+      (tool : Tool)
+      → sorts_by tool request ≡ false
+      → KeepOrder (action_by tool request input day files settings).script
+  tool-order Useradd is =
+      let under = settings_for request settings
+      in useradd-order request files (plan_of request files under) (new_shadow request under day)
+      (plan_of request files under).uid (plan_of request files under).gid
+  tool-order Usermod is = usermod-order request files day
+  tool-order Userdel is = userdel-order request files settings
+  tool-order Groupadd is =
+      groupadd-by request files settings (is_content (operand request) request files)
+  tool-order Groupmod is = groupmod-order (operand request) request files
+  tool-order Groupdel is = groups-order _ _ tt tt
+  tool-order Gpasswd is = gpasswd-order (operand request) request files
+  tool-order Chage is = chage-by request files (aging_report (aging_of (operand request) files))
+      (has_option (codes "l") request)
+  tool-order Chpasswd is = all-order (map (line_script files day) (lines_of input))
+      (chpasswd-order files day (lines_of input))
+  tool-order Pwck is = pwck-by request files day (has_option (codes "s") request) is
+  tool-order Grpck is = grpck-by files (has_option (codes "s") request) is
+  tool-order tool is = none-order
 
 -- ---- Deeds
 
@@ -363,24 +357,14 @@ command-order :
 command-order request input day files settings is =
     outcome-order (action_of request input day files settings)
     (outcome_of (action_of request input day files settings) files)
-    (tool-order request.tool request input day files settings is)
+    (tool-order request input day files settings request.tool is)
 
 -- a tool that a line of a batch may name doesn't sort
 line-sorts : (tool : Tool) (request : Request) → is_for_lines tool ≡ true
     → sorts_by tool request ≡ false
-line-sorts Useradd request is = refl
-line-sorts Usermod request is = refl
-line-sorts Userdel request is = refl
-line-sorts Groupadd request is = refl
-line-sorts Groupmod request is = refl
-line-sorts Groupdel request is = refl
-line-sorts Gpasswd request is = refl
-line-sorts Chage request is = refl
-line-sorts Chpasswd request is = refl
 line-sorts Pwck request is = absurd (cc is)
 line-sorts Grpck request is = absurd (cc is)
-line-sorts Getsubids request is = refl
-line-sorts Batch request is = refl
+line-sorts tool request is = refl
 
 -- the lines of a batch
 lines-order :

@@ -77,10 +77,7 @@ end-reads Escaped column words begun result split = record {
   reads = last_backslash;
   same = cc;
 }
-end-reads (Single opened) column words begun result split = cc
-end-reads (Double opened) column words begun result split = cc
-end-reads (DoubleEscaped opened) column words begun result split = cc
-end-reads Comment column words begun result split = cc
+end-reads place column words begun result split = cc
 
 -- more bytes of a word that the line reads on from
 pub more-bytes :

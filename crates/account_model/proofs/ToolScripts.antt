@@ -4,7 +4,7 @@ use Rattle.std.proofs.Common.{◌≡◌, ℕ, ◌≤◌, Bool, true, false, List
 use Rattle.std.specs.Prelude.{None, codes, if◌then◌else◌}
 use Rattle.acct_text.specs.declared.files.Files.{Files}
 use Rattle.account_model.specs.declared.tool.Tool.{Tool}
-use Rattle.account_model.specs.declared.tool.Tool.TheVariants.{Useradd, Usermod, Userdel, Groupadd, Groupmod, Groupdel, Gpasswd, Chage, Chpasswd, Pwck, Grpck, Getsubids, Batch}
+use Rattle.account_model.specs.declared.tool.Tool.TheVariants.{Useradd, Usermod, Userdel, Groupadd, Groupmod, Groupdel, Gpasswd, Chage, Chpasswd, Pwck, Grpck}
 use Rattle.account_model.specs.Text.{first_some}
 use Rattle.account_model.specs.Records.{greatest_days}
 use Rattle.account_model.specs.Request.{Request, has_option}
@@ -52,41 +52,30 @@ grpck-by files true =
     }
 grpck-by files false = none-written
 
--- tool by tool
-tool-written :
-    (tool : Tool) (request : Request) (input : List ℕ) (day : ℕ) (files : Files)
-    (settings : List Setting)
-    → day ≤ greatest_days
-    → first_some (action_by tool request input day files settings).refusals ≡ None
-    → IsWrittenScript (action_by tool request input day files settings).script
-tool-written Useradd request input day files settings small none =
-    useradd-written request files settings day small none
-tool-written Usermod request input day files settings small none =
-    usermod-written request files day small none
-tool-written Userdel request input day files settings small none =
-    userdel-written request files settings
-tool-written Groupadd request input day files settings small none =
-    groupadd-written request files settings none
-tool-written Groupmod request input day files settings small none =
-    groupmod-written request files none
-tool-written Groupdel request input day files settings small none = groupdel-written request files
-tool-written Gpasswd request input day files settings small none =
-    gpasswd-written request files none
-tool-written Chage request input day files settings small none = chage-written request files
-tool-written Chpasswd request input day files settings small none =
-    chpasswd-written input files day small none
-tool-written Pwck request input day files settings small none =
-    pwck-by request files day (has_option (codes "s") request)
-tool-written Grpck request input day files settings small none =
-    grpck-by files (has_option (codes "s") request)
-tool-written Getsubids request input day files settings small none = none-written
-tool-written Batch request input day files settings small none = none-written
+module _ (request : Request) (input : List ℕ) (day : ℕ) (files : Files)
+    (settings : List Setting) where
+  -- tool by tool
+  tool-written :
+      (tool : Tool)
+      → day ≤ greatest_days
+      → first_some (action_by tool request input day files settings).refusals ≡ None
+      → IsWrittenScript (action_by tool request input day files settings).script
+  tool-written Useradd small none = useradd-written request files settings day small none
+  tool-written Usermod small none = usermod-written request files day small none
+  tool-written Userdel small none = userdel-written request files settings
+  tool-written Groupadd small none = groupadd-written request files settings none
+  tool-written Groupmod small none = groupmod-written request files none
+  tool-written Groupdel small none = groupdel-written request files
+  tool-written Gpasswd small none = gpasswd-written request files none
+  tool-written Chage small none = chage-written request files
+  tool-written Chpasswd small none = chpasswd-written input files day small none
+  tool-written Pwck small none = pwck-by request files day (has_option (codes "s") request)
+  tool-written Grpck small none = grpck-by files (has_option (codes "s") request)
+  tool-written tool small none = none-written
 
--- a tool that doesn't refuse prints only records that read back
-pub tools-written :
-    (request : Request) (input : List ℕ) (day : ℕ) (files : Files) (settings : List Setting)
-    → day ≤ greatest_days
-    → first_some (action_of request input day files settings).refusals ≡ None
-    → IsWrittenScript (action_of request input day files settings).script
-tools-written request input day files settings small none =
-    tool-written request.tool request input day files settings small none
+  -- a tool that doesn't refuse prints only records that read back
+  pub tools-written :
+      day ≤ greatest_days
+      → first_some (action_of request input day files settings).refusals ≡ None
+      → IsWrittenScript (action_of request input day files settings).script
+  tools-written = tool-written request.tool

@@ -76,10 +76,7 @@ module _ {R : Type 0} (format : Format R) (tells : TellsSame format) where
   sorts-stay text (Arrange key ∷ edits) lines sort =
       sorts-stay text edits (edited format lines (Arrange key)) sort.1
       ∙ arranged-times format key text lines
-  sorts-stay text (Become f ∷ edits) lines sort = absurd sort.0
-  sorts-stay text (Add r ∷ edits) lines sort = absurd sort.0
-  sorts-stay text (AddMissing r ∷ edits) lines sort = absurd sort.0
-  sorts-stay text (Put r ∷ edits) lines sort = absurd sort.0
+  sorts-stay text (edit ∷ edits) lines sort = absurd sort.0
 
   -- edits leave the lines that they don't touch
   lines-leave :

@@ -53,12 +53,10 @@ pieces-ordered :
     (pieces : List (List ℕ)) (ids : IdRange)
     → range_of_pieces pieces ≡ Some ids
     → IsOrdered ids
-pieces-ordered [] ids e = cc
-pieces-ordered (first ∷ []) ids e = cc
 pieces-ordered (first ∷ last ∷ []) ids e =
     ids-by (read_id first) (read_id last) ids
     (λ n found. (number-is greatest_id last n found).bounded) e
-pieces-ordered (first ∷ last ∷ more ∷ rest) ids e = cc
+pieces-ordered pieces ids e = cc
 
 -- ranges of values
 values-by :

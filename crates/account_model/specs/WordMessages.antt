@@ -1,12 +1,13 @@
 -- The statuses and the texts of faults of words. The texts are this profile's own.
-use Rattle.std.specs.Prelude.{ℕ, suc, Bool, false, ◌||◌, ◌==◌, if◌then◌else◌, bytes_eq, find, List, [], ◌∷◌, ◌++◌, codes, decimal, Option, Some, None, unwrap_or, slice_get}
+use Rattle.std.specs.Prelude.{ℕ, suc, Bool, false, not, ◌||◌, ◌==◌, if◌then◌else◌, bytes_eq, filter, find, map, List, [], ◌∷◌, ◌++◌, codes, decimal, Option, Some, None, unwrap_or, slice_get}
 use Rattle.account_model.specs.declared.tool.Tool.{Tool}
-use Rattle.account_model.specs.declared.tool.Tool.TheVariants.{Useradd, Usermod, Userdel, Pwck, Grpck, Getsubids, Batch}
+use Rattle.account_model.specs.declared.tool.Tool.TheVariants.{Useradd, Usermod, Userdel, Groupadd, Groupmod, Gpasswd, Chage, Chpasswd, Pwck, Grpck, Getsubids, Batch}
 use Rattle.account_model.specs.declared.word_fault.WordFault.{WordFault}
 use Rattle.account_model.specs.declared.word_fault.WordFault.TheVariants.{LineEnd, Unclosed, WordLimit, NoTool, UnknownTool, UnknownOption, MissingValue, UnexpectedValue, TooMany, NoPrefix, EmptyPrefix, TooFew, Clash, Memory}
-use Rattle.std.specs.List.{list_any}
 use Rattle.acct_text.specs.Bytes.{is_empty}
-use Rattle.account_model.specs.Options.{Word, rule_texts}
+use Rattle.account_model.specs.Options.{Word, own_options, rule_texts}
+use Rattle.account_model.specs.Spelling.{name_part}
+use Rattle.account_model.specs.Text.{hyphen, has_byte, is_listed}
 use Rattle.account_model.specs.Words.{tool_name, tool_named, tools}
 use Rattle.account_model.specs.BatchLines.{FaultyLine}
 use Rattle.account_model.specs.Messages.{line_by, line_text, message}
@@ -36,23 +37,52 @@ unknown_text word = codes "unknown command " ++ word
       | Some tool ↦ codes " (" ++ tool_name tool ++ codes "?)"
     ]
 
--- the options of the original for home folders, which the wrapper by the old names takes
-abbrev pub wrapper_options : Tool → List Word
-wrapper_options Useradd =
-    codes "-m" ∷ codes "--create-home" ∷ codes "-k" ∷ codes "--skel" ∷ []
-wrapper_options Usermod = codes "-m" ∷ codes "--move-home" ∷ []
-wrapper_options Userdel = codes "-r" ∷ codes "--remove" ∷ []
-wrapper_options tool = []
+-- the letters of the options that the wrapper by the old names takes beside those of the tool
+abbrev pub wrapper_letters : Tool → List ℕ
+wrapper_letters Useradd = codes "km"
+wrapper_letters Usermod = codes "bmr"
+wrapper_letters Userdel = codes "r"
+wrapper_letters Groupadd = codes "U"
+wrapper_letters Groupmod = codes "aU"
+wrapper_letters Chage = codes "i"
+wrapper_letters Chpasswd = codes "c"
+wrapper_letters tool = []
 
--- whether the wrapper takes the word as an option of the tool
-abbrev pub is_for_wrapper : Option Tool → Word → Bool
-is_for_wrapper None word = false
-is_for_wrapper (Some tool) word =
-    list_any (λ option. bytes_eq option word) (wrapper_options tool)
+-- their long names
+abbrev pub wrapper_names : Tool → List Word
+wrapper_names Useradd = codes "badname" ∷ codes "create-home" ∷ codes "skel" ∷ []
+wrapper_names Usermod = codes "badname" ∷ codes "move-home" ∷ codes "remove" ∷ []
+wrapper_names Userdel = codes "remove" ∷ []
+wrapper_names Groupadd = codes "users" ∷ []
+wrapper_names Groupmod = codes "append" ∷ codes "users" ∷ []
+wrapper_names Gpasswd = codes "delete-password" ∷ []
+wrapper_names Chage = codes "iso8601" ∷ []
+wrapper_names Chpasswd = codes "crypt-method" ∷ []
+wrapper_names tool = []
+
+-- the letters of the tool's flags, behind which a word may go on with another letter
+abbrev pub flag_letters : Tool → List ℕ
+flag_letters tool =
+    map (λ form. form.letter) (filter (λ form. not form.takes_value) (own_options tool))
+
+-- the unknown option among the letters behind a `-`: one that takes a value is the last of a word
+abbrev pub unknown_letter : Tool → Word → Option ℕ
+unknown_letter tool letters = find (λ letter. not (has_byte letter (flag_letters tool))) letters
+
+-- whether the wrapper takes the unknown option of a word, which begins with `-`
+abbrev pub is_for_wrapper : Tool → Word → Bool
+is_for_wrapper tool (c ∷ d ∷ rest) =
+    if d == hyphen then is_listed (name_part rest) (wrapper_names tool) else
+    elim (unknown_letter tool (d ∷ rest)) [
+      | None ↦ false
+      | Some letter ↦ has_byte letter (wrapper_letters tool)
+    ]
+is_for_wrapper tool word = false
 
 -- what is said of a word with an unknown option, behind it
 abbrev pub wrapper_hint : Option Tool → Word → List ℕ
-wrapper_hint tool word =
+wrapper_hint None word = []
+wrapper_hint (Some tool) word =
     if is_for_wrapper tool word then codes " (the wrapper by the old names has it)" else []
 
 -- what is said of the rule of this number, counted from 1

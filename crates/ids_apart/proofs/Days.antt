@@ -6,13 +6,13 @@ use Rattle.std.specs.Prelude.{Option, Some, None, codes, map, if◌then◌else�
 use Rattle.acct_text.specs.declared.files.Files.{Files}
 use Rattle.acct_text.specs.Lines.{Line, lines_of}
 use Rattle.account_model.specs.declared.tool.Tool.{Tool}
-use Rattle.account_model.specs.declared.tool.Tool.TheVariants.{Useradd, Usermod, Userdel, Groupadd, Groupmod, Groupdel, Gpasswd, Chage, Chpasswd, Pwck, Grpck, Getsubids, Batch}
+use Rattle.account_model.specs.declared.tool.Tool.TheVariants.{Useradd, Chpasswd, Pwck}
 use Rattle.account_model.specs.Text.{first_some}
 use Rattle.account_model.specs.Request.{Request, has_option}
 use Rattle.account_model.specs.Settings.{Setting}
 use Rattle.account_model.specs.Tables.{Script, in_order, followed_by}
-use Rattle.account_model.specs.Action.{changes}
-use Rattle.account_model.specs.Change.{action_by, action_of}
+use Rattle.account_model.specs.Action.{Action, changes}
+use Rattle.account_model.specs.Change.{action_by}
 use Rattle.account_model.specs.WrittenScript.{IsWrittenScript}
 use Rattle.account_model.specs.NewAccount.{settings_for}
 use Rattle.account_model.specs.Useradd.{new_uid, primary_gid, new_shadow, plan_of, useradd_script}
@@ -42,9 +42,8 @@ useradd-alike :
     (new_shadow request settings day) uid gid)
     ≡ without_hashes (useradd_script request files (plan_of request files settings)
     (new_shadow request settings 0) uid gid)
-useradd-alike request files settings day None gid = refl
-useradd-alike request files settings day (Some uid) None = refl
 useradd-alike request files settings day (Some uid) (Some gid) = refl
+useradd-alike request files settings day uid gid = refl
 
 -- the lines of chpasswd
 lines-alike :
@@ -66,30 +65,6 @@ pwck-alike :
 pwck-alike request files day true = refl
 pwck-alike request files day false = refl
 
--- the other tables are edited as on day 0
-alike :
-    (tool : Tool) (request : Request) (input : List ℕ) (day : ℕ) (files : Files)
-    (settings : List Setting)
-    → without_hashes (action_by tool request input day files settings).script
-    ≡ without_hashes (action_by tool request input 0 files settings).script
-alike Useradd request input day files settings =
-    let under = settings_for request settings
-    in useradd-alike request files under day (new_uid request files under)
-    (primary_gid request files under)
-alike Usermod request input day files settings = refl
-alike Userdel request input day files settings = refl
-alike Groupadd request input day files settings = refl
-alike Groupmod request input day files settings = refl
-alike Groupdel request input day files settings = refl
-alike Gpasswd request input day files settings = refl
-alike Chage request input day files settings = refl
-alike Chpasswd request input day files settings = lines-alike files day (lines_of input)
-alike Pwck request input day files settings =
-    pwck-alike request files day (has_option (codes "s") request)
-alike Grpck request input day files settings = refl
-alike Getsubids request input day files settings = refl
-alike Batch request input day files settings = refl
-
 -- pwck refuses nothing
 pwck-passes :
     (request : Request) (files : Files) (day : ℕ) (sorts : Bool)
@@ -99,34 +74,36 @@ pwck-passes :
 pwck-passes request files day true = refl
 pwck-passes request files day false = refl
 
--- what isn't refused on a day isn't on day 0
-passes-alike :
-    (tool : Tool) (request : Request) (input : List ℕ) (day : ℕ) (files : Files)
-    (settings : List Setting)
-    → first_some (action_by tool request input day files settings).refusals ≡ None
-    → first_some (action_by tool request input 0 files settings).refusals ≡ None
-passes-alike Useradd request input day files settings none = none
-passes-alike Usermod request input day files settings none = none
-passes-alike Userdel request input day files settings none = none
-passes-alike Groupadd request input day files settings none = none
-passes-alike Groupmod request input day files settings none = none
-passes-alike Groupdel request input day files settings none = none
-passes-alike Gpasswd request input day files settings none = none
-passes-alike Chage request input day files settings none = none
-passes-alike Chpasswd request input day files settings none = none
-passes-alike Pwck request input day files settings none =
-    pwck-passes request files 0 (has_option (codes "s") request)
-passes-alike Grpck request input day files settings none = none
-passes-alike Getsubids request input day files settings none = none
-passes-alike Batch request input day files settings none = none
+module _ (request : Request) (input : List ℕ) (day : ℕ) (files : Files)
+    (settings : List Setting) where
+  -- what a tool does on a day
+  abbrev action : Tool → ℕ → Action
+  action tool today = action_by tool request input today files settings
 
--- the claim
-pub written-always :
-    (request : Request) (input : List ℕ) (day : ℕ) (files : Files) (settings : List Setting)
-    → first_some (action_of request input day files settings).refusals ≡ None
-    → IsWrittenScript (without_hashes (action_of request input day files settings).script)
-written-always request input day files settings none =
-    subst IsWrittenScript (sym (alike request.tool request input day files settings))
-    (fewer-written (action_of request input 0 files settings).script
-    (tools-written request input 0 files settings (omega arith)
-    (passes-alike request.tool request input day files settings none)))
+  -- the other tables are edited as on day 0
+  alike : (tool : Tool) → without_hashes (action tool day).script
+      ≡ without_hashes (action tool 0).script
+  alike Useradd =
+      let under = settings_for request settings
+      in useradd-alike request files under day (new_uid request files under)
+      (primary_gid request files under)
+  alike Chpasswd = lines-alike files day (lines_of input)
+  alike Pwck = pwck-alike request files day (has_option (codes "s") request)
+  alike tool = refl
+
+  -- what isn't refused on a day isn't on day 0
+  passes-alike :
+      (tool : Tool)
+      → first_some (action tool day).refusals ≡ None
+      → first_some (action tool 0).refusals ≡ None
+  passes-alike Pwck none = pwck-passes request files 0 (has_option (codes "s") request)
+  passes-alike tool none = none
+
+  -- the claim
+  pub written-always :
+      first_some (action request.tool day).refusals ≡ None
+      → IsWrittenScript (without_hashes (action request.tool day).script)
+  written-always none =
+      subst IsWrittenScript (sym (alike request.tool))
+      (fewer-written (action request.tool 0).script
+      (tools-written request input 0 files settings (omega arith) (passes-alike request.tool none)))

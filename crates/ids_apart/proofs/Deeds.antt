@@ -23,9 +23,9 @@ use Rattle.account_model.proofs.EditLines.{table-edited}
 use Rattle.ids_apart.specs.Holders.{gid_holders, has_number, shares_gid, shares_uid, subgid_holders, subuid_holders, uid_holders}
 use Rattle.ids_apart.specs.Laws.{AddsNoHolder, DeedsAddNoHolders, MeetNoMore, NoneDoes}
 use Rattle.ids_apart.proofs.Keys.{has_key}
-use Rattle.ids_apart.proofs.Kept.{uid_key, gid_key, KeepsRanges, KeepsOwnIds, table-meets}
+use Rattle.ids_apart.proofs.Kept.{uid_key, gid_key, KeepsApart, table-meets}
 use Rattle.ids_apart.proofs.Days.{without_hashes, written-always}
-use Rattle.ids_apart.proofs.Tools.{tool-ranges, tool-ids}
+use Rattle.ids_apart.proofs.Tools.{tool-keeps}
 
 -- ---- What a tool makes
 
@@ -48,13 +48,10 @@ module _ (request : Request) (input : List ℕ) (day : ℕ) (old : Files) (setti
   written : IsWrittenScript (without_hashes script)
   written = written-always request input day old settings is_made.passes
 
-  -- what the tool keeps of ranges
-  keeps-ranges : KeepsRanges old script
-  keeps-ranges = tool-ranges request.tool request input day old settings is_made.passes written
-
-  -- what it keeps of IDs
-  keeps-ids : KeepsOwnIds request.tool request old script
-  keeps-ids = tool-ids request.tool request input day old settings is_made.passes is_made.single
+  -- what the tool keeps apart
+  keeps : KeepsApart request.tool request old script
+  keeps = tool-keeps request input day old settings request.tool is_made.passes is_made.single
+      written
 
   -- subuid
   subuids-met : (number : ℕ) → MeetNoMore (subuid_holders number old)
@@ -62,7 +59,7 @@ module _ (request : Request) (input : List ℕ) (day : ℕ) (old : Files) (setti
   subuids-met number =
       subst (λ files. MeetNoMore (subuid_holders number old) (subuid_holders number files))
       made_files (table-meets subid_format (has_number number) old.subuid script.subuid
-      (table-edited subid_format subid-tells refl) written.subuid (keeps-ranges.subuids number))
+      (table-edited subid_format subid-tells refl) written.subuid (keeps.subuids number))
 
   -- subgid
   subgids-met : (number : ℕ) → MeetNoMore (subgid_holders number old)
@@ -70,7 +67,7 @@ module _ (request : Request) (input : List ℕ) (day : ℕ) (old : Files) (setti
   subgids-met number =
       subst (λ files. MeetNoMore (subgid_holders number old) (subgid_holders number files))
       made_files (table-meets subid_format (has_number number) old.subgid script.subgid
-      (table-edited subid_format subid-tells refl) written.subgid (keeps-ranges.subgids number))
+      (table-edited subid_format subid-tells refl) written.subgid (keeps.subgids number))
 
   -- passwd
   uids-met : (uid : ℕ) → shares_uid uid request ≡ false
@@ -78,7 +75,7 @@ module _ (request : Request) (input : List ℕ) (day : ℕ) (old : Files) (setti
   uids-met uid shares =
       subst (λ files. MeetNoMore (uid_holders uid old) (uid_holders uid files)) made_files
       (table-meets passwd_format (has_key uid_key uid) old.passwd script.passwd
-      (table-edited passwd_format passwd-tells refl) written.passwd (keeps-ids.uids uid shares))
+      (table-edited passwd_format passwd-tells refl) written.passwd (keeps.uids uid shares))
 
   -- group
   gids-met : (gid : ℕ) → shares_gid gid request ≡ false
@@ -86,7 +83,7 @@ module _ (request : Request) (input : List ℕ) (day : ℕ) (old : Files) (setti
   gids-met gid shares =
       subst (λ files. MeetNoMore (gid_holders gid old) (gid_holders gid files)) made_files
       (table-meets group_format (has_key gid_key gid) old.group script.group
-      (table-edited group_format group-tells refl) written.group (keeps-ids.gids gid shares))
+      (table-edited group_format group-tells refl) written.group (keeps.gids gid shares))
 
 -- ---- What a deed makes
 

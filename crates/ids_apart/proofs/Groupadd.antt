@@ -1,5 +1,5 @@
--- Claim: groupadd leaves ranges (`groupadd-ranges`), and gives a GID that no group has, but where `-o` names it
--- (`groupadd-ids`). Way: a given GID that is taken is refused, or with `-f` another is chosen; a chosen one isn't used.
+-- Claim: groupadd leaves ranges, and gives a GID that no group has, but where `-o` names it
+-- (`groupadd-apart`). Way: a given GID that is taken is refused, or with `-f` another is chosen; a chosen one isn't used.
 use Rattle.std.proofs.Common.{◌≡◌, ℕ, Bool, true, false, not, ◌&&◌, List, [], ◌∷◌, ◌++◌, refl, sym, subst}
 use Rattle.std.specs.Prelude.{Option, Some, None, codes, is_some, option_and_then, if◌then◌else◌}
 use Rattle.std.proofs.lemmas.Bool.{eqb-true}
@@ -10,8 +10,8 @@ use Rattle.account_model.specs.declared.refusal.Refusal.TheVariants.{GidInUse}
 use Rattle.account_model.specs.declared.tool.Tool.TheVariants.{Groupadd}
 use Rattle.account_model.specs.Text.{first_some}
 use Rattle.account_model.specs.Edits.Edit.{Add}
-use Rattle.account_model.specs.Records.{passwd_format, group_format, subid_format}
-use Rattle.account_model.specs.Tables.{Script, no_edits, group_records, passwd_records, subgid_records, subuid_records}
+use Rattle.account_model.specs.Records.{group_format}
+use Rattle.account_model.specs.Tables.{Script, no_edits, group_records}
 use Rattle.account_model.specs.Settings.{Setting, range}
 use Rattle.account_model.specs.Ids.{used_gids, is_used}
 use Rattle.account_model.specs.Hashes.{elsewhere}
@@ -21,10 +21,9 @@ use Rattle.account_model.specs.Refusals.{refuse_if}
 use Rattle.account_model.specs.Action.{changes}
 use Rattle.account_model.specs.NewAccount.{kind_of, settings_for, new_hash, new_group, add_group}
 use Rattle.account_model.specs.Groupadd.{is_gid_taken, other_gid, new_gid, groupadd_checks, groupadd_conflicts, is_content, groupadd_script, groupadd}
-use Rattle.ids_apart.specs.Holders.{has_number, is_given, shares_gid_by}
-use Rattle.ids_apart.proofs.HolderEdits.{none-meets}
+use Rattle.ids_apart.specs.Holders.{is_given, shares_gid_by}
 use Rattle.ids_apart.proofs.Keys.{has_key}
-use Rattle.ids_apart.proofs.Kept.{uid_key, gid_key, KeepsRanges, KeepsOwnIds, stays-table, gentle-ranges, gentle-ids, none-gentle}
+use Rattle.ids_apart.proofs.Kept.{gid_key, KeepsApart, stays-table, gentle-apart, none-gentle}
 use Rattle.ids_apart.proofs.Refusals.{behind-none}
 use Rattle.ids_apart.proofs.Shared.{unshared}
 use Rattle.ids_apart.proofs.Unused.{chosen-unused, refuse-fails, push-keeps}
@@ -94,84 +93,53 @@ gid-by request files settings gid (Some given) shares none e =
 
 -- ---- The edits
 
--- ranges, by the GID that there is
-script-ranges :
-    (name hash : List ℕ) (files : Files) (gid : Option ℕ)
-    → KeepsRanges files
-    (elim gid as (λ n. Script) [ None ↦ no_edits | Some n ↦ add_group name hash n files ])
-script-ranges name hash files None = gentle-ranges files no_edits none-gentle
-script-ranges name hash files (Some gid) = record {
-  subuids = λ n. stays-table subid_format (has_number n) files.subuid []
-      (none-meets subid_format (has_number n) [] tt (subuid_records files));
-  subgids = λ n. stays-table subid_format (has_number n) files.subgid []
-      (none-meets subid_format (has_number n) [] tt (subgid_records files));
-}
-
--- IDs, by the GID that there is
-script-ids :
+-- by the GID that there is
+script-apart :
     (request : Request) (name hash : List ℕ) (files : Files) (gid : Option ℕ)
     → ((id : ℕ) → gid ≡ Some id → shares_gid_by Groupadd id request ≡ false
     → is_used (used_gids files) id ≡ false)
-    → KeepsOwnIds Groupadd request files
+    → KeepsApart Groupadd request files
     (elim gid as (λ n. Script) [ None ↦ no_edits | Some n ↦ add_group name hash n files ])
-script-ids request name hash files None unused =
-    gentle-ids Groupadd request files no_edits none-gentle
-script-ids request name hash files (Some gid) unused =
+script-apart request name hash files None unused = gentle-apart none-gentle
+script-apart request name hash files (Some gid) unused =
     let new = new_group name (if is_some files.gshadow then elsewhere else hash) gid
+    in let none = gentle-apart {tool = Groupadd} {request = request} {files = files} none-gentle
     in record {
-      uids = λ uid shares. stays-table passwd_format (has_key uid_key uid) files.passwd []
-          (none-meets passwd_format (has_key uid_key uid) [] tt (passwd_records files));
+      uids = none.uids;
       gids = λ id shares. stays-table group_format (has_key gid_key id) files.group (Add new ∷ [])
           (push-keeps gid_key id new (group_records files) (λ has.
           let same = eqb-true gid id has
           in subst (λ n. is_used (used_gids files) n ≡ false) same
           (unused gid refl (subst (λ n. shares_gid_by Groupadd n request ≡ false) (sym same)
           shares))));
+      subuids = none.subuids;
+      subgids = none.subgids;
     }
 
 -- ---- The whole
 
--- ranges, by whether the group is there and that is no refusal
-ranges-by :
-    (name : List ℕ) (request : Request) (files : Files) (settings : List Setting) (content : Bool)
-    → KeepsRanges files (if content
-    then changes (groupadd_checks name request) no_edits
-    else changes (groupadd_checks name request ++ groupadd_conflicts name request files settings)
-    (groupadd_script name request files settings)).script
-ranges-by name request files settings true = gentle-ranges files no_edits none-gentle
-ranges-by name request files settings false =
-    script-ranges name (new_hash request) files (new_gid request files settings)
-
--- groupadd leaves ranges
-pub groupadd-ranges :
-    (request : Request) (files : Files) (settings : List Setting)
-    → KeepsRanges files (groupadd request files settings).script
-groupadd-ranges request files settings =
-    ranges-by (operand request) request files settings (is_content (operand request) request files)
-
--- IDs, by whether the group is there and that is no refusal
-ids-by :
+-- by whether the group is there and that is no refusal
+groupadd-by :
     (name : List ℕ) (request : Request) (files : Files) (settings : List Setting) (content : Bool)
     → first_some (if content
     then changes (groupadd_checks name request) no_edits
     else changes (groupadd_checks name request ++ groupadd_conflicts name request files settings)
     (groupadd_script name request files settings)).refusals ≡ None
-    → KeepsOwnIds Groupadd request files (if content
+    → KeepsApart Groupadd request files (if content
     then changes (groupadd_checks name request) no_edits
     else changes (groupadd_checks name request ++ groupadd_conflicts name request files settings)
     (groupadd_script name request files settings)).script
-ids-by name request files settings true none =
-    gentle-ids Groupadd request files no_edits none-gentle
-ids-by name request files settings false none =
+groupadd-by name request files settings true none = gentle-apart none-gentle
+groupadd-by name request files settings false none =
     let passed = behind-none (groupadd_checks name request)
     (groupadd_conflicts name request files settings) none
-    in script-ids request name (new_hash request) files (new_gid request files settings)
+    in script-apart request name (new_hash request) files (new_gid request files settings)
     (λ gid e shares. gid-by request files settings gid (given_gid request) shares passed.1.0 e)
 
--- groupadd gives no GID to one more group, but where `-o` names it
-pub groupadd-ids :
+-- groupadd gives no GID to one more group, but where `-o` names it, and leaves UIDs and ranges
+pub groupadd-apart :
     (request : Request) (files : Files) (settings : List Setting)
     → first_some (groupadd request files settings).refusals ≡ None
-    → KeepsOwnIds Groupadd request files (groupadd request files settings).script
-groupadd-ids request files settings none = ids-by (operand request) request files settings
+    → KeepsApart Groupadd request files (groupadd request files settings).script
+groupadd-apart request files settings none = groupadd-by (operand request) request files settings
     (is_content (operand request) request files) none

@@ -1,5 +1,5 @@
--- Claim: groupmod leaves ranges and UIDs (`groupmod-ranges`), and gives no GID to one more group, but where `-o` names it
--- (`groupmod-ids`). Way: a GID of `-g` that another group has is refused, and so is a group whose name stands twice.
+-- Claim: groupmod leaves ranges and UIDs, and gives no GID to one more group, but where `-o` names it
+-- (`groupmod-apart`). Way: a GID of `-g` that another group has is refused, and so is a group whose name stands twice.
 use Rattle.std.proofs.Common.{◌≡◌, ℕ, Bool, false, not, ◌&&◌, List, [], ◌∷◌, ◌++◌, refl, sym, subst, inl, inr}
 use Rattle.std.specs.Prelude.{Option, Some, None, ◌==◌, codes, option_and_then, if◌then◌else◌}
 use Rattle.std.specs.List.{AllByRecursion}
@@ -27,7 +27,7 @@ use Rattle.account_model.proofs.ListLaws.{all-append}
 use Rattle.ids_apart.specs.Holders.{has_number, is_given}
 use Rattle.ids_apart.proofs.HolderEdits.{AddsNone, EditsMeetNoMore, none-meets}
 use Rattle.ids_apart.proofs.Keys.{has_key, KeepsKeys, where-keys, where-keep, all-keys-keep}
-use Rattle.ids_apart.proofs.Kept.{uid_key, gid_key, KeepsRanges, KeepsOwnIds, stays-table, gentle-table}
+use Rattle.ids_apart.proofs.Kept.{uid_key, gid_key, KeepsApart, stays-table, gentle-table}
 use Rattle.ids_apart.proofs.NewKeys.{IsFreeKey, set-meets}
 use Rattle.ids_apart.proofs.Refusals.{all-none, map-none}
 use Rattle.ids_apart.proofs.Shared.{unshared}
@@ -118,19 +118,6 @@ script-leaves group request files =
     (followed-leaves gid (followed_by name no_edits)
     (gid-leaves group (given_gid request) (group_named group files))
     (followed-leaves name no_edits (name-leaves group (value_of (codes "n") request)) none-leaves))
-
-pub groupmod-ranges :
-    (request : Request) (files : Files) → KeepsRanges files (groupmod request files).script
-groupmod-ranges request files =
-    let leaves = script-leaves (operand request) request files
-    in record {
-      subuids = λ n. gentle-table subid_format (has_number n) files.subuid
-          (groupmod request files).script.subuid
-          (leaves-gentle (groupmod request files).script.subuid leaves.subuid n);
-      subgids = λ n. gentle-table subid_format (has_number n) files.subgid
-          (groupmod request files).script.subgid
-          (leaves-gentle (groupmod request files).script.subgid leaves.subgid n);
-    }
 
 -- ---- The IDs
 
@@ -223,11 +210,11 @@ module _ (group : List ℕ) (request : Request) (files : Files) where
       (name-users group (value_of (codes "n") request))
 
   -- the whole
-  script-ids :
+  script-apart :
       first_some (groupmod_refusals group request files) ≡ None
       → multiple_entries (groupmod_script group request files) files ≡ None
-      → KeepsOwnIds Groupmod request files (groupmod_script group request files)
-  script-ids none multiple =
+      → KeepsApart Groupmod request files (groupmod_script group request files)
+  script-apart none multiple =
       let passed = all-none (groupmod_refusals group request files) none
       in let single = all-none
       (multiple_in Passwd passwd_format (groupmod_script group request files).passwd
@@ -237,6 +224,7 @@ module _ (group : List ℕ) (request : Request) (files : Files) where
       ∷ multiple_in Group group_format (groupmod_script group request files).group
       (group_records files)
       ∷ _ ∷ []) multiple
+      in let leaves = script-leaves group request files
       in record {
         uids = λ uid shares. gentle-table passwd_format (has_key uid_key uid) files.passwd
             (groupmod_script group request files).passwd
@@ -248,13 +236,19 @@ module _ (group : List ℕ) (request : Request) (files : Files) where
             (has_option (codes "o") request)
             shares refl passed.1.1.1.1.1.0
             (map-none (λ name. Multiple Group name) _ single.1.1.0));
+        subuids = λ n. gentle-table subid_format (has_number n) files.subuid
+            (groupmod_script group request files).subuid
+            (leaves-gentle (groupmod_script group request files).subuid leaves.subuid n);
+        subgids = λ n. gentle-table subid_format (has_number n) files.subgid
+            (groupmod_script group request files).subgid
+            (leaves-gentle (groupmod_script group request files).subgid leaves.subgid n);
       }
 
--- groupmod gives no GID to one more group, but where `-o` names it
-pub groupmod-ids :
+-- groupmod gives no GID to one more group, but where `-o` names it, and leaves UIDs and ranges
+pub groupmod-apart :
     (request : Request) (files : Files)
     → first_some (groupmod request files).refusals ≡ None
     → multiple_entries (groupmod request files).script files ≡ None
-    → KeepsOwnIds Groupmod request files (groupmod request files).script
-groupmod-ids request files none multiple =
-    script-ids (operand request) request files none multiple
+    → KeepsApart Groupmod request files (groupmod request files).script
+groupmod-apart request files none multiple =
+    script-apart (operand request) request files none multiple

@@ -1,5 +1,5 @@
--- What a script keeps apart, table by table (`KeepsRanges`, `KeepsOwnIds`). A script after whose edits no more records
--- have an ID, whatever the records are (`IsGentle`), keeps all (`gentle-ranges`, `gentle-ids`).
+-- What a script keeps apart, table by table (`KeepsApart`). A script after whose edits no more records have an ID, whatever
+-- the records are (`IsGentle`), keeps all (`gentle-apart`).
 use Rattle.std.proofs.Common.{◌≡◌, ℕ, ◌≤◌, max, Bool, false, List, sym, subst, arith}
 use Rattle.std.specs.Prelude.{⊤, Option, Some, None, count_by}
 use Rattle.std.specs.List.{AllByRecursion}
@@ -34,20 +34,18 @@ TableStays format test None edits = ⊤
 TableStays format test (Some bytes) edits =
     EditsMeetNoMore format test (table_records format (Some bytes)) edits
 
--- no number comes to one more range of subordinate IDs that is in one
-pub record KeepsRanges (files : Files) (script : Script) : Type 0 where
-  pub subuids : (number : ℕ)
-      → TableStays subid_format (has_number number) files.subuid script.subuid
-  pub subgids : (number : ℕ)
-      → TableStays subid_format (has_number number) files.subgid script.subgid
-
--- no UID comes to one more user and no GID to one more group, but where the tool is asked for it with `-o`
-pub record KeepsOwnIds (tool : Tool) (request : Request) (files : Files) (script : Script)
+-- no UID comes to one more user and no GID to one more group, but where the tool is asked for it with `-o`, and no number
+-- to one more range of subordinate IDs that is in one
+pub record KeepsApart (tool : Tool) (request : Request) (files : Files) (script : Script)
     : Type 0 where
   pub uids : (uid : ℕ) → shares_uid_by tool uid request ≡ false
       → TableStays passwd_format (has_key uid_key uid) files.passwd script.passwd
   pub gids : (gid : ℕ) → shares_gid_by tool gid request ≡ false
       → TableStays group_format (has_key gid_key gid) files.group script.group
+  pub subuids : (number : ℕ)
+      → TableStays subid_format (has_number number) files.subuid script.subuid
+  pub subgids : (number : ℕ)
+      → TableStays subid_format (has_number number) files.subgid script.subgid
 
 -- a table, whether it stands or not
 pub stays-table :
@@ -114,23 +112,18 @@ gentle-table format test bytes edits add =
     stays-table format test bytes edits
     (none-meets format test edits add (table_records format bytes))
 
--- a gentle script keeps ranges apart
-pub gentle-ranges : (files : Files) (script : Script) → IsGentle script → KeepsRanges files script
-gentle-ranges files script gentle = record {
-  subuids = λ n. gentle-table subid_format (has_number n) files.subuid script.subuid
-      (gentle.subuid n);
-  subgids = λ n. gentle-table subid_format (has_number n) files.subgid script.subgid
-      (gentle.subgid n);
-}
-
--- and IDs, whatever it is asked for
-pub gentle-ids :
-    (tool : Tool) (request : Request) (files : Files) (script : Script)
+-- a gentle script keeps all apart, whatever it is asked for
+pub gentle-apart :
+    {tool : Tool} {request : Request} {files : Files} {script : Script}
     → IsGentle script
-    → KeepsOwnIds tool request files script
-gentle-ids tool request files script gentle = record {
+    → KeepsApart tool request files script
+gentle-apart {files = files} {script = script} gentle = record {
   uids = λ uid shares. gentle-table passwd_format (has_key uid_key uid) files.passwd script.passwd
       (gentle.passwd uid);
   gids = λ gid shares. gentle-table group_format (has_key gid_key gid) files.group script.group
       (gentle.group gid);
+  subuids = λ n. gentle-table subid_format (has_number n) files.subuid script.subuid
+      (gentle.subuid n);
+  subgids = λ n. gentle-table subid_format (has_number n) files.subgid script.subgid
+      (gentle.subgid n);
 }

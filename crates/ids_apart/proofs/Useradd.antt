@@ -1,5 +1,5 @@
--- Claim: useradd gives a user ranges that meet none (`useradd-ranges`), a UID that no user has, but where `-o` names it,
--- and a group with a GID that no group has (`useradd-ids`). Way: a given UID that is in use is refused, and a chosen ID
+-- Claim: useradd gives a user ranges that meet none, a UID that no user has, but where `-o` names it, and a group with a
+-- GID that no group has (`useradd-apart`). Way: a given UID that is in use is refused, and a chosen ID
 -- isn't used; a range begins where it fits.
 use Rattle.std.proofs.Common.{◌≡◌, zero, suc, ℕ, ◌+◌, ◌-◌, ◌<◌, Bool, true, false, not, ◌&&◌, List, [], ◌∷◌, ◌++◌, refl, sym, ◌∙◌, ap, subst, arith, append-nil}
 use Rattle.std.specs.Prelude.{Option, Some, None, ◌==◌, codes, is_some, map, option_and_then, if◌then◌else◌}
@@ -38,7 +38,7 @@ use Rattle.ids_apart.proofs.HolderEdits.{AddsNone, EditsMeetNoMore, behind-meets
 use Rattle.ids_apart.proofs.Keys.{KeepsKeys, all-keys-keep, has_key}
 use Rattle.ids_apart.proofs.Numbers.{number-in, unmet-count}
 use Rattle.ids_apart.proofs.Shared.{unshared}
-use Rattle.ids_apart.proofs.Kept.{uid_key, gid_key, KeepsRanges, KeepsOwnIds, stays-table, gentle-ranges, gentle-ids, none-gentle}
+use Rattle.ids_apart.proofs.Kept.{uid_key, gid_key, KeepsApart, stays-table, gentle-apart, none-gentle}
 use Rattle.ids_apart.proofs.Refusals.{behind-none}
 use Rattle.ids_apart.proofs.Unused.{chosen-unused, refuse-fails, push-keeps}
 use Rattle.ids_apart.proofs.Quiet.{LeavesRanges, IsQuiet, none-leaves, order-quiet, add-to-group-quiet}
@@ -227,23 +227,6 @@ module _ (request : Request) (files : Files) (settings : List Setting) (day uid 
       (makes_group request settings)
       (record { subuid = refl; subgid = refl })
 
-  -- a user of this UID and this GID keeps ranges apart
-  add-ranges : KeepsRanges files edits
-  add-ranges = record {
-    subuids = λ n. stays-table subid_format (has_number n) files.subuid
-        (own.subuid ++ (join.subuid ++ (allotted request plan.subuid ++ [])))
-        (subst (EditsMeetNoMore subid_format (has_number n) (subordinate_uids files settings).records)
-        (sym (ranges-behind own.subuid join.subuid (allotted request plan.subuid)
-        own-ranges.subuid (join-quiet request files).ranges.subuid))
-        (allotted-stays n request plan.uid (subordinate_uids files settings)));
-    subgids = λ n. stays-table subid_format (has_number n) files.subgid
-        (own.subgid ++ (join.subgid ++ (allotted request plan.subgid ++ [])))
-        (subst (EditsMeetNoMore subid_format (has_number n) (subordinate_gids files settings).records)
-        (sym (ranges-behind own.subgid join.subgid (allotted request plan.subgid)
-        own-ranges.subgid (join-quiet request files).ranges.subgid))
-        (allotted-stays n request plan.uid (subordinate_gids files settings)));
-  }
-
   -- the users, with one more
   add-users :
       (id : ℕ)
@@ -285,11 +268,11 @@ module _ (request : Request) (files : Files) (settings : List Setting) (day uid 
       (group_records files)
 
   -- a user of an unused UID, with a group of an unused GID
-  add-ids :
+  add-apart :
       (shares_uid_by Useradd uid request ≡ false → is_used (used_uids files) uid ≡ false)
       → (makes_group request settings ≡ true → is_used (used_gids files) gid ≡ false)
-      → KeepsOwnIds Useradd request files edits
-  add-ids unused_uid unused_gid = record {
+      → KeepsApart Useradd request files edits
+  add-apart unused_uid unused_gid = record {
     uids = λ id shares. stays-table passwd_format (has_key uid_key id) files.passwd
         (Add (new_user request files uid gid) ∷ (own.passwd ++ (join.passwd ++ [])))
         (add-users id (λ has. let same = eqb-true uid id has
@@ -300,62 +283,54 @@ module _ (request : Request) (files : Files) (settings : List Setting) (day uid 
         (add-groups id (makes_group request settings)
         (λ makes has. subst (λ n. is_used (used_gids files) n ≡ false) (eqb-true gid id has)
         (unused_gid makes)));
+    subuids = λ n. stays-table subid_format (has_number n) files.subuid
+        (own.subuid ++ (join.subuid ++ (allotted request plan.subuid ++ [])))
+        (subst (EditsMeetNoMore subid_format (has_number n) (subordinate_uids files settings).records)
+        (sym (ranges-behind own.subuid join.subuid (allotted request plan.subuid)
+        own-ranges.subuid (join-quiet request files).ranges.subuid))
+        (allotted-stays n request plan.uid (subordinate_uids files settings)));
+    subgids = λ n. stays-table subid_format (has_number n) files.subgid
+        (own.subgid ++ (join.subgid ++ (allotted request plan.subgid ++ [])))
+        (subst (EditsMeetNoMore subid_format (has_number n) (subordinate_gids files settings).records)
+        (sym (ranges-behind own.subgid join.subgid (allotted request plan.subgid)
+        own-ranges.subgid (join-quiet request files).ranges.subgid))
+        (allotted-stays n request plan.uid (subordinate_gids files settings)));
   }
 
 -- ---- The whole
 
--- ranges, by the IDs that there are
-script-ranges :
-    (request : Request) (files : Files) (settings : List Setting) (day : ℕ) (uid gid : Option ℕ)
-    → KeepsRanges files (useradd_script request files (plan_of request files settings)
-    (new_shadow request settings day) uid gid)
-script-ranges request files settings day None gid = gentle-ranges files no_edits none-gentle
-script-ranges request files settings day (Some uid) None = gentle-ranges files no_edits none-gentle
-script-ranges request files settings day (Some uid) (Some gid) =
-    add-ranges request files settings day uid gid
-
--- useradd keeps ranges apart
-pub useradd-ranges :
-    (request : Request) (files : Files) (settings : List Setting) (day : ℕ)
-    → KeepsRanges files (useradd request files settings day).script
-useradd-ranges request files settings day =
-    let under = settings_for request settings
-    in script-ranges request files under day (new_uid request files under)
-    (primary_gid request files under)
-
--- IDs, by those that there are
-script-ids :
+-- by the IDs that there are
+script-apart :
     (request : Request) (files : Files) (settings : List Setting) (day : ℕ) (uid gid : Option ℕ)
     → ((id : ℕ) → uid ≡ Some id → shares_uid_by Useradd id request ≡ false
     → is_used (used_uids files) id ≡ false)
     → ((id : ℕ) → gid ≡ Some id → makes_group request settings ≡ true
     → is_used (used_gids files) id ≡ false)
-    → KeepsOwnIds Useradd request files (useradd_script request files (plan_of request files settings)
+    → KeepsApart Useradd request files (useradd_script request files (plan_of request files settings)
     (new_shadow request settings day) uid gid)
-script-ids request files settings day None gid unused_uid unused_gid =
-    gentle-ids Useradd request files no_edits none-gentle
-script-ids request files settings day (Some uid) None unused_uid unused_gid =
-    gentle-ids Useradd request files no_edits none-gentle
-script-ids request files settings day (Some uid) (Some gid) unused_uid unused_gid =
-    add-ids request files settings day uid gid (unused_uid uid refl) (unused_gid gid refl)
+script-apart request files settings day None gid unused_uid unused_gid = gentle-apart none-gentle
+script-apart request files settings day (Some uid) None unused_uid unused_gid =
+    gentle-apart none-gentle
+script-apart request files settings day (Some uid) (Some gid) unused_uid unused_gid =
+    add-apart request files settings day uid gid (unused_uid uid refl) (unused_gid gid refl)
 
 -- useradd under settings
-under-ids :
+under-apart :
     (settings : List Setting) (request : Request) (files : Files) (day : ℕ)
     → first_some (useradd_under settings request files day).refusals ≡ None
-    → KeepsOwnIds Useradd request files (useradd_under settings request files day).script
-under-ids settings request files day none =
+    → KeepsApart Useradd request files (useradd_under settings request files day).script
+under-apart settings request files day none =
     let passed = behind-none (useradd_checks request)
     (useradd_conflicts request files (plan_of request files settings)) none
-    in script-ids request files settings day (new_uid request files settings)
+    in script-apart request files settings day (new_uid request files settings)
     (primary_gid request files settings)
     (λ id e shares. uid-unused request files settings id passed.1.1.1.1.0 e shares)
     (λ id e makes. primary-by request files settings id _ (makes_group request settings) makes e)
 
--- useradd gives no UID to one more user, but where `-o` names it, and no GID to one more group
-pub useradd-ids :
+-- useradd gives no UID to one more user, but where `-o` names it, no GID to one more group, and keeps ranges apart
+pub useradd-apart :
     (request : Request) (files : Files) (settings : List Setting) (day : ℕ)
     → first_some (useradd request files settings day).refusals ≡ None
-    → KeepsOwnIds Useradd request files (useradd request files settings day).script
-useradd-ids request files settings day none =
-    under-ids (settings_for request settings) request files day none
+    → KeepsApart Useradd request files (useradd request files settings day).script
+useradd-apart request files settings day none =
+    under-apart (settings_for request settings) request files day none

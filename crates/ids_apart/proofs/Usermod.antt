@@ -1,5 +1,5 @@
--- Claim: usermod keeps ranges apart (`usermod-ranges`), and gives no UID to one more user, but where `-o` names it
--- (`usermod-ids`). Way: the hash comes first and keeps all; a UID of `-u` that another user has is refused, and so is a user whose name
+-- Claim: usermod keeps ranges apart, and gives no UID to one more user, but where `-o` names it
+-- (`usermod-apart`). Way: the hash comes first and keeps all; a UID of `-u` that another user has is refused, and so is a user whose name
 -- stands twice.
 use Rattle.std.proofs.Common.{◌≡◌, ℕ, Bool, true, false, not, ◌&&◌, ◌||◌, List, [], ◌∷◌, ◌++◌, refl, sym, ◌∙◌, ap, subst, inl, inr, append-nil}
 use Rattle.std.specs.Prelude.{◌⊎◌, Option, Some, None, ◌==◌, codes, option_map, option_and_then, unwrap_or, if◌then◌else◌}
@@ -32,7 +32,7 @@ use Rattle.account_model.proofs.ListLaws.{all-append}
 use Rattle.ids_apart.specs.Holders.{has_number, is_given}
 use Rattle.ids_apart.proofs.HolderEdits.{AddsNone, EditsMeetNoMore, none-meets}
 use Rattle.ids_apart.proofs.Keys.{has_key, each-keep, where-keep, all-keys-keep}
-use Rattle.ids_apart.proofs.Kept.{uid_key, gid_key, TableStays, KeepsRanges, KeepsOwnIds, stays-table, gentle-table}
+use Rattle.ids_apart.proofs.Kept.{uid_key, gid_key, TableStays, KeepsApart, stays-table, gentle-table}
 use Rattle.ids_apart.proofs.NewKeys.{IsFreeKey, set-meets}
 use Rattle.ids_apart.proofs.Refusals.{all-none, behind-none, map-none}
 use Rattle.ids_apart.proofs.Shared.{unshared}
@@ -70,38 +70,6 @@ ranges-behind :
     → hash ++ (ranges ++ []) ≡ ranges
 ranges-behind hash ranges none =
     ap (λ front. front ++ (ranges ++ [])) none ∙ append-nil ranges
-
--- usermod keeps ranges apart
-pub usermod-ranges :
-    (request : Request) (files : Files) (day : ℕ)
-    → first_some (usermod request files day).refusals ≡ None
-    → AllByRecursion (IsWrittenEdit subid_format) (usermod request files day).script.subuid
-    → AllByRecursion (IsWrittenEdit subid_format) (usermod request files day).script.subgid
-    → KeepsRanges files (usermod request files day).script
-usermod-ranges request files day none written_uids written_gids =
-    let passed = behind-none (usermod_checks request) (usermod_conflicts request files) none
-    in let owner = range_owner request files
-    in let leaves = (hash-quiet request files).ranges
-    in let uids = ranges-behind (hash_script request files).subuid
-    (range_edits owner (subuid_change request files))
-    leaves.subuid
-    in let gids = ranges-behind (hash_script request files).subgid
-    (range_edits owner (subgid_change request files))
-    leaves.subgid
-    in record {
-      subuids = λ n. subst (TableStays subid_format (has_number n) files.subuid) (sym uids)
-          (ranges-stay n Subuid owner (subuid_change request files) files.subuid
-          (values-ordered (values_of (codes "V") request))
-          (added-ordered files.subuid owner (codes "V") (codes "v") request)
-          (subst (AllByRecursion (IsWrittenEdit subid_format)) uids written_uids)
-          passed.1.1.1.1.1.1.0);
-      subgids = λ n. subst (TableStays subid_format (has_number n) files.subgid) (sym gids)
-          (ranges-stay n Subgid owner (subgid_change request files) files.subgid
-          (values-ordered (values_of (codes "W") request))
-          (added-ordered files.subgid owner (codes "W") (codes "w") request)
-          (subst (AllByRecursion (IsWrittenEdit subid_format)) gids written_gids)
-          passed.1.1.1.1.1.1.1.0);
-    }
 
 -- ---- The IDs
 
@@ -191,18 +159,28 @@ module _ (request : Request) (files : Files) where
       (hash-quiet request files).group)
       (each-keep group_format gid_key id (changed_group request files) (λ r. refl), tt)
 
--- usermod gives no UID to one more user, but where `-o` names it, and leaves GIDs
-pub usermod-ids :
+-- usermod gives no UID to one more user, but where `-o` names it, leaves GIDs, and keeps ranges apart
+pub usermod-apart :
     (request : Request) (files : Files) (day : ℕ)
     → first_some (usermod request files day).refusals ≡ None
     → multiple_entries (usermod request files day).script files ≡ None
-    → KeepsOwnIds Usermod request files (usermod request files day).script
-usermod-ids request files day none multiple =
+    → AllByRecursion (IsWrittenEdit subid_format) (usermod request files day).script.subuid
+    → AllByRecursion (IsWrittenEdit subid_format) (usermod request files day).script.subgid
+    → KeepsApart Usermod request files (usermod request files day).script
+usermod-apart request files day none multiple written_uids written_gids =
     let passed = behind-none (usermod_checks request) (usermod_conflicts request files) none
     in let single = all-none
     (multiple_in Passwd passwd_format (usermod request files day).script.passwd
     (passwd_records files)
     ∷ _ ∷ _ ∷ _ ∷ []) multiple
+    in let owner = range_owner request files
+    in let leaves = (hash-quiet request files).ranges
+    in let uids = ranges-behind (hash_script request files).subuid
+    (range_edits owner (subuid_change request files))
+    leaves.subuid
+    in let gids = ranges-behind (hash_script request files).subgid
+    (range_edits owner (subgid_change request files))
+    leaves.subgid
     in record {
       uids = λ uid shares. stays-table passwd_format (has_key uid_key uid) files.passwd
           (usermod request files day).script.passwd
@@ -211,4 +189,16 @@ usermod-ids request files day none multiple =
       gids = λ gid shares. gentle-table group_format (has_key gid_key gid) files.group
           (usermod request files day).script.group
           (kept-groups request files gid);
+      subuids = λ n. subst (TableStays subid_format (has_number n) files.subuid) (sym uids)
+          (ranges-stay n Subuid owner (subuid_change request files) files.subuid
+          (values-ordered (values_of (codes "V") request))
+          (added-ordered files.subuid owner (codes "V") (codes "v") request)
+          (subst (AllByRecursion (IsWrittenEdit subid_format)) uids written_uids)
+          passed.1.1.1.1.1.1.0);
+      subgids = λ n. subst (TableStays subid_format (has_number n) files.subgid) (sym gids)
+          (ranges-stay n Subgid owner (subgid_change request files) files.subgid
+          (values-ordered (values_of (codes "W") request))
+          (added-ordered files.subgid owner (codes "W") (codes "w") request)
+          (subst (AllByRecursion (IsWrittenEdit subid_format)) gids written_gids)
+          passed.1.1.1.1.1.1.1.0);
     }

@@ -1,11 +1,11 @@
 -- Claim: tables that are listed one after the other, in the fixed order, each where it differs, are the
 -- tables that differ (`all-listed`). Way: what is listed, with what differs among the tables that are
--- to come, stays the same from one table to the next (`listed-on`, `listed-past`).
-use Rattle.std.proofs.Common.{◌≡◌, ◌∙◌, ◌++◌, append_assoc, append-nil, ap, refl, sym, Bool, true, if◌then◌else◌, List, [], ◌∷◌}
+-- to come, stays the same from one table to the next (`listed-on`).
+use Rattle.std.proofs.Common.{◌≡◌, ◌∙◌, ◌++◌, append_assoc, append-nil, ap, refl, sym, List, [], ◌∷◌}
 use Rattle.acct_text.specs.declared.Tab.{Tab}
 use Rattle.acct_text.specs.declared.new_tables.NewTable.{NewTable}
 use Rattle.acct_text.specs.ChangedTables.{changed_among, changed_bytes, changed_tables, with_new_table}
-use Rattle.acct_text.specs.Contents.{Contents, same_content}
+use Rattle.acct_text.specs.Contents.{Contents}
 use Rattle.acct_text.specs.Tables.{all_tables}
 use Rattle.acct_text.proofs.ChangedTablesLemmas.{changed_among-cons, with_new_table-append}
 
@@ -36,17 +36,6 @@ module _ (old new : Contents) where
       (with_new_table-append table (changed_bytes (old table) (new table)) among
       ∙ sym (changed_among-cons table rest old new))
       ∙ before))
-
-  -- one that is the same is passed over
-  pub listed-past :
-      (table : Tab) (rest : List Tab) (listed : List NewTable)
-      → same_content (old table) (new table) ≡ true
-      → AreListedBefore (table ∷ rest) listed
-      → AreListedBefore rest listed
-  listed-past table rest listed same before =
-      let among = changed_among rest old new in
-      sym (ap (λ (is_same : Bool). listed ++ (if is_same then among
-      else with_new_table table (new table) among)) same) ∙ before
 
   -- the claim
   pub all-listed :

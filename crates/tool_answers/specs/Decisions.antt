@@ -75,7 +75,3 @@ abbrev pub decision_of_lines : Files → Result Written LineRefusal → Decision
 decision_of_lines files (Err line) =
     RefuseLine line.number line.refusal (line_refusal_output line)
 decision_of_lines files (Ok written) = written_decision files written
-
--- the batch decides as its lines say
-abbrev pub LinesDecide : Files → Result Written LineRefusal → Decision → Type 0
-LinesDecide files outcome decision = decision ≡ decision_of_lines files outcome
