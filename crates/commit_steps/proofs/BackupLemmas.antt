@@ -30,6 +30,7 @@ use Rattle.suite_rules.specs.Outcomes.{pieces_left}
 use Rattle.suite_rules.proofs.Names.{table-same}
 use Rattle.suite_rules.proofs.KeeperParts.{knows-next, staged-next}
 use Rattle.recovery.proofs.CarryLemmas.{whole-staged}
+use Rattle.lock_steps.specs.Stands.{Keeps}
 use Rattle.lock_steps.proofs.KeeperLemmas.{keeps-on, is-keeper}
 use Rattle.commit_steps.specs.States.{Change, Stager, Walker, append_intent, append_on, backup_pieces, changed, has_staged, intended, intent_left, intent_piece, next_table, old_bytes, old_files, begun_of, step_on, steps_left, walk_of}
 use Rattle.commit_steps.specs.Stands.{BacksUp, HasLoaded, HasStagedIntent, KnowsBackups, KnowsInputs}
@@ -126,7 +127,7 @@ module _ (walker : Walker) (next : NewTable)
       cases false is left = absurd (omega (arith, left))
 
   -- so many first pieces are staged
-  staged-old : has_staged walker ≡ true → (stood : Standing) → BacksUp walker stood →
+  pub staged-old : has_staged walker ≡ true → (stood : Standing) → BacksUp walker stood →
       stood.staged BackupStage
       ≡ Some (first_pieces walker.staged (old_bytes walker.change next.table))
   staged-old staged stood held = at-next (λ (one : NewTable). stood.staged BackupStage
@@ -196,9 +197,8 @@ module _ (walker : Walker) (next : NewTable)
         behind = ap is_some (staged-old staged stood held);
       })
 
-  -- What a move of the staged bytes leads to, where the table stood.
-  module _ (stands : IsSome (old_files walker.change next.table))
-      (staged : has_staged walker ≡ true) (whole : backup_pieces walker ≡ 0) (stood : Standing)
+  -- Where the table stood.
+  module _ (stands : IsSome (old_files walker.change next.table)) (stood : Standing)
       (held : BacksUp walker stood) where
     -- the session saw these bytes of the table
     saw : held.keeps.knows.inputs.seen.file (Table next.table)
@@ -207,6 +207,24 @@ module _ (walker : Walker) (next : NewTable)
         ∙ ap (λ (content : Option Bytes). let some : Option (Option Bytes) = Some content in some)
         (old-is (old_files walker.change next.table) stands)
 
+    -- the rules permit a move of them, wherever all are staged
+    pub may-back-up : (deeds : SuiteDeeds) (staged : Stages) →
+        staged BackupStage ≡ Some (old_bytes walker.change next.table) →
+        Permits deeds (record stood { staged = staged }) (moves_backup_of next)
+    may-back-up deeds staged whole = move_rule BackupStage (Backup next.table)
+        (record { number = walker.change.inputs.keeper.number; keeps = held.keeps.locks.owns })
+        (moves_backup next.table (record {
+          seen = held.keeps.knows.inputs.seen;
+          knows = held.keeps.knows.inputs.clean;
+          bytes = old_bytes walker.change next.table;
+          is_seen = saw;
+          staged = whole;
+        }))
+
+  -- What a move of the staged bytes leads to, where the table stood.
+  module _ (stands : IsSome (old_files walker.change next.table))
+      (staged : has_staged walker ≡ true) (whole : backup_pieces walker ≡ 0) (stood : Standing)
+      (held : BacksUp walker stood) where
     -- they are staged
     is-staged : stood.staged BackupStage ≡ Some (old_bytes walker.change next.table)
     is-staged = staged-old staged stood held
@@ -248,7 +266,8 @@ module _ (walker : Walker) (next : NewTable)
                 inputs = record {
                   seen = record inputs.seen { backed = table_with next.table inputs.seen.backed };
                   clean = moves-seen next.table (old_bytes walker.change next.table)
-                      (stood.staged BackupStage) stood.knows inputs.seen is-staged inputs.clean saw;
+                      (stood.staged BackupStage) stood.knows inputs.seen is-staged inputs.clean
+                      (saw stands stood held);
                   each_table = inputs.each_table;
                   settings = inputs.settings;
                 };
@@ -260,15 +279,7 @@ module _ (walker : Walker) (next : NewTable)
 
     -- the rules permit it
     pub may-move-backup : (deeds : SuiteDeeds) → Permits deeds stood (moves_backup_of next)
-    may-move-backup deeds = move_rule BackupStage (Backup next.table)
-        (is-keeper walker.change.inputs.keeper (KnowsSoFar walker) stood held.keeps)
-        (moves_backup next.table (record {
-          seen = held.keeps.knows.inputs.seen;
-          knows = held.keeps.knows.inputs.clean;
-          bytes = old_bytes walker.change next.table;
-          is_seen = saw;
-          staged = is-staged;
-        }))
+    may-move-backup deeds = may-back-up stands stood held deeds stood.staged is-staged
 
 -- The pieces of the intent.
 
@@ -317,39 +328,51 @@ some-piece intent = cases (intent_pieces intent) refl
         absurd (omega (arith, text))
 
 -- What the write of the intent's first piece leads to, once no step is left.
-module _ (walker : Walker)
-    (reads_it : ReadsIntent (intent_text (intended walker.change)) (intended walker.change)) where
+module _ (walker : Walker) where
   -- the call
   abbrev pub stages_intent : Call
   stages_intent = writes IntentStage (intent_piece 0 walker.change)
 
-  -- it is staged, and all tables are backed up
-  pub intent-after-write : steps_left walker ≡ 0 → (answer : Unit {0}) (stood : Standing) →
-      BacksUp walker stood →
-      HasStagedIntent (begun_of walker.change)
-      (standing_step (writes IntentStage (intent_piece 0 walker.change)) (done answer) stood)
-  intent-after-write none answer stood held =
-      let number = walker.change.inputs.keeper.number in
-      let done_all = all-done walker none (λ staged. is-within
-      (λ (next : NewTable). stood.staged BackupStage
-      ≡ Some (first_pieces walker.staged (old_bytes walker.change next.table)))
-      (changed walker.change) walker.place (held.staged staged)) in
-      record {
-        keeps = keeps-on walker.change.inputs.keeper (KnowsSoFar walker)
-            (KnowsBackups walker.change (changed walker.change))
-            stood (standing_step stages_intent (done answer) stood) refl refl held.keeps
-            (subst (KnowsBackups walker.change (changed walker.change))
-            (sym (knows-next stages_intent (done answer) stood number held.keeps.locks.owns))
-            (subst (λ (tables : List NewTable). KnowsBackups walker.change tables stood.knows)
-            done_all held.keeps.knows));
-        uncommitted = held.uncommitted;
-        reads_it = reads_it;
-        staged = ap (λ (staged : Stages). staged IntentStage)
-            (staged-next stages_intent (done answer) stood number held.keeps.locks.owns)
-            ∙ ap (λ (bytes : Bytes). let some : Option Bytes = Some bytes in some)
-            (first-piece (intent_pieces (intended walker.change))
-            (some-piece (intended walker.change)));
-      }
+  module _ (answer : Unit {0}) (stood : Standing) (held : BacksUp walker stood) where
+    -- all tables are backed up
+    pub all-backed-up : steps_left walker ≡ 0 → Keeps walker.change.inputs.keeper
+        (KnowsBackups walker.change (changed walker.change))
+        (standing_step stages_intent (done answer) stood)
+    all-backed-up none =
+        let all = all-done walker none (λ staged. is-within
+        (λ (next : NewTable). stood.staged BackupStage
+        ≡ Some (first_pieces walker.staged (old_bytes walker.change next.table)))
+        (changed walker.change) walker.place (held.staged staged)) in
+        keeps-on walker.change.inputs.keeper (KnowsSoFar walker)
+        (KnowsBackups walker.change (changed walker.change))
+        stood (standing_step stages_intent (done answer) stood) refl refl held.keeps
+        (subst (KnowsBackups walker.change (changed walker.change))
+        (sym (knows-next stages_intent (done answer) stood walker.change.inputs.keeper.number
+        held.keeps.locks.owns))
+        (subst (λ (tables : List NewTable). KnowsBackups walker.change tables stood.knows)
+        all held.keeps.knows))
+
+    -- the piece is staged
+    pub first-intent : (standing_step stages_intent (done answer) stood).staged IntentStage
+        ≡ Some (concat (take 1 (intent_pieces (intended walker.change))))
+    first-intent = ap (λ (staged : Stages). staged IntentStage)
+        (staged-next stages_intent (done answer) stood walker.change.inputs.keeper.number
+        held.keeps.locks.owns)
+        ∙ ap (λ (bytes : Bytes). let some : Option Bytes = Some bytes in some)
+        (first-piece (intent_pieces (intended walker.change))
+        (some-piece (intended walker.change)))
+
+  -- so the session has staged it, where its intent reads
+  pub intent-after-write :
+      ReadsIntent (intent_text (intended walker.change)) (intended walker.change) →
+      steps_left walker ≡ 0 → (answer : Unit {0}) (stood : Standing) → BacksUp walker stood →
+      HasStagedIntent (begun_of walker.change) (standing_step stages_intent (done answer) stood)
+  intent-after-write reads_it none answer stood held = record {
+    keeps = all-backed-up answer stood held none;
+    uncommitted = held.uncommitted;
+    reads_it = reads_it;
+    staged = first-intent answer stood held;
+  }
 
   -- the rules permit it
   pub may-stage-intent : (deeds : SuiteDeeds) (stood : Standing) → BacksUp walker stood →

@@ -14,7 +14,7 @@ use Rattle.acct_outside.specs.declared.Name.TheVariants.{Backup, BackupStage, In
 use Rattle.acct_outside.specs.Pieces.{piece_at}
 use Rattle.acct_outside.specs.Calls.{Call, appends, reads, renames, writes}
 use Rattle.acct_outside.specs.Contract.{IsName}
-use Rattle.intent_file.specs.Intent.{NewTable, ReadsIntent, intent_text}
+use Rattle.intent_file.specs.Intent.{NewTable}
 use Rattle.suite_rules.specs.Outcomes.{pieces_left}
 use Rattle.suite_rules.specs.Rules.{free_read}
 use Rattle.lock_steps.specs.NextCall.{IsCallWhere, IsNextCall, next_or}
@@ -22,7 +22,7 @@ use Rattle.recovery.proofs.CarryLemmas.{some-staged}
 use Rattle.commit_steps.specs.NextCall.{MayCommit, backing_call, backs_up_table, committing_call}
 use Rattle.commit_steps.specs.Outcomes.{backs_up_more, backup_call}
 use Rattle.commit_steps.specs.Stands.{BacksUp, HasRead}
-use Rattle.commit_steps.specs.States.{Reader, Stager, Walker, backup_pieces, changed, has_staged, intended, intent_left, intent_piece, next_name, next_table, old_bytes, old_files, steps_left}
+use Rattle.commit_steps.specs.States.{Reader, Stager, Walker, backup_pieces, changed, has_staged, intent_left, intent_piece, next_name, next_table, old_bytes, old_files, steps_left}
 use Rattle.commit_steps.proofs.BackupLemmas.{backup-staged, backup-unstaged, begun-backup, may-append-backup, may-append-intent, may-move-backup, may-stage-backup, may-stage-intent, old-pieces}
 use Rattle.commit_steps.proofs.CommitLemmas.{may-commit}
 
@@ -122,14 +122,13 @@ module _ (walker : Walker) where
   -- the write of the intent's first piece, once all tables are backed up
   pub next-intent : steps_left walker ≡ 0 → (piece : Bytes) →
       piece ≡ intent_piece 0 walker.change →
-      ReadsIntent (intent_text (intended walker.change)) (intended walker.change) →
       IsNextCall (BacksUp walker) (backing_call walker) (Write IntentStage piece)
-  next-intent none piece is reads_it =
+  next-intent none piece is =
       subst (λ (next : Call). IsNextCall (BacksUp walker) next (Write IntentStage piece))
       (sym (backs-none walker none)) (record {
         names = ap (writes IntentStage) is;
         later = λ has. tt;
-        permitted = λ deeds stood held. may-stage-intent walker reads_it deeds stood held;
+        permitted = λ deeds stood held. may-stage-intent walker deeds stood held;
       })
 
   module _ (next : NewTable) (is_next : next_table walker ≡ Some next) where

@@ -56,9 +56,9 @@ module _ (intent : Intended) (keeper : Kept) (left : List NewTable) (stood : Sta
   kept : KeeperRule stood
   kept = is-keeper keeper KnowsAnything stood held.keeps
 
-  -- it knows the intent, as the rules ask
-  abbrev known : KnowsIntent stood
-  known = record {
+  -- it knows the intent, as the rules ask, whatever it has staged
+  abbrev known : (staged : Stages) → KnowsIntent (record stood { staged = staged })
+  known staged = record {
     bytes = held.bytes;
     placed = held.placed;
     knows = held.knows;
@@ -106,7 +106,7 @@ module _ (intent : Intended) (keeper : Kept) (left : List NewTable) (stood : Sta
         staged
 
     -- the other way round
-    first-is-next : (written : ℕ) (one : Standing) → HasStagedFirst left written one →
+    pub first-is-next : (written : ℕ) (one : Standing) → HasStagedFirst left written one →
         one.staged (Staged next.table) ≡ Some (first_pieces written next.bytes)
     first-is-next written one staged =
         subst (λ (found : Option NewTable). IsSomeAnd found (λ next.
@@ -209,21 +209,29 @@ module _ (intent : Intended) (keeper : Kept) (left : List NewTable) (stood : Sta
             ≡ install_step table knew
         installed table knew = rw (table-same table) refl
 
-    -- the rules permit that move
-    pub may-move : (deeds : SuiteDeeds) (written : ℕ) → 0 < written →
-        pieces_left written next.bytes ≡ 0 → HasStagedFirst left written stood →
-        Permits deeds stood (installs next)
-    may-move deeds written begun none staged =
+    -- the rules permit that move, wherever all of its bytes are staged
+    pub may-install : (deeds : SuiteDeeds) (staged : Stages) →
+        staged (Staged next.table) ≡ Some next.bytes →
+        Permits deeds (record stood { staged = staged }) (installs next)
+    may-install deeds staged whole =
         let order = ap is_in_order (sym split)
         ∙ (allowed_parts intent held.reads_it.allowed).in_order in
-        install_rule next.table kept (record {
-          knows = known;
+        install_rule next.table
+        (record { number = keeper.number; keeps = held.keeps.locks.owns }) (record {
+          knows = known staged;
           bytes = next.bytes;
           listed = ap (λ (tables : List NewTable). listed_in tables next.table) split
               ∙ listed-there held.moved next (drop 1 left) order;
-          staged = first-is-next written stood staged
-              ∙ ap (λ (text : Bytes). Some text) (whole-staged written next.bytes begun none);
+          staged = whole;
         })
+
+    -- as they are once no piece is left
+    pub may-move : (deeds : SuiteDeeds) (written : ℕ) → 0 < written →
+        pieces_left written next.bytes ≡ 0 → HasStagedFirst left written stood →
+        Permits deeds stood (installs next)
+    may-move deeds written begun none staged = may-install deeds stood.staged
+        (first-is-next written stood staged
+        ∙ ap (λ (text : Bytes). Some text) (whole-staged written next.bytes begun none))
 
   -- ---- The removal of the intent
 
@@ -241,7 +249,7 @@ module _ (intent : Intended) (keeper : Kept) (left : List NewTable) (stood : Sta
       ∙ (ap (λ (rest : List NewTable). held.moved ++ rest) (none-of left none)
       ∙ append-nil held.moved) in
       clear_rule kept (record {
-        knows = known;
+        knows = known stood.staged;
         in_place = λ table bytes listed. all-in-place held.placed intent.tables
             (All-same (λ (new : NewTable). held.placed new.table ≡ true)
             intent.tables held.moved all_moved held.in_place)

@@ -34,7 +34,7 @@ use Rattle.suite_rules.proofs.Names.{fails-apart, table-is, table-same}
 use Rattle.suite_rules.proofs.Commitments.{fold-append}
 use Rattle.suite_rules.proofs.Settles.{file-facts, lawful-settles}
 use Rattle.suite_rules.proofs.Places.{places-stay}
-use Rattle.suite_session.specs.Backing.{IsToChange, BacksUpChange, BackedUpChanges}
+use Rattle.suite_session.specs.Writing.{IsToChange, WritesDue, WroteDue}
 use Rattle.suite_session.specs.Deeds.{AreOfTools}
 use Rattle.suite_course.specs.Alone.{IsAlone, IsBackedUp}
 use Rattle.suite_course.proofs.AloneLemmas.{no-events, same-token}
@@ -315,7 +315,7 @@ module _ (deeds : SuiteDeeds) (ours : AreOfTools deeds) (first entry : Folder) (
 
     -- each permitted call
     backups-step : (call : Call) (result : CallResult (Answer call)) →
-        Permits deeds stood call → Next call result → BacksUpChange stood call →
+        Permits deeds stood call → Next call result → WritesDue stood call →
         BackupsAfter call result
     backups-step _ result (free_begin command) next backs =
         leaves (begins command) result next refl refl (λ table. refl)
@@ -368,7 +368,7 @@ module _ (deeds : SuiteDeeds) (ours : AreOfTools deeds) (first : Folder) (token 
   -- an event of the session
   own-step : (event : Event) (history : History) → Lawful deeds first history →
       event.token ≡ token → IsNext deeds first history event →
-      BacksUpChange (standing token history) event.call → BackupsNow history →
+      WritesDue (standing token history) event.call → BackupsNow history →
       BackupsNow (event ∷ history)
   own-step event history lawful same next backs held =
       subst (λ (one : Token). IsNext deeds first history
@@ -383,7 +383,7 @@ module _ (deeds : SuiteDeeds) (ours : AreOfTools deeds) (first : Folder) (token 
 
   -- all its events
   own-steps : (newer : History) → AllByRecursion (λ event. event.token ≡ token) newer →
-      Lawful deeds first (newer ++ old) → BackedUpChanges token (newer ++ old) →
+      Lawful deeds first (newer ++ old) → WroteDue token (newer ++ old) →
       BackupsNow (newer ++ old)
   own-steps [] own lawful backed =
       let none = no-events token old fresh in
@@ -398,7 +398,7 @@ module _ (deeds : SuiteDeeds) (ours : AreOfTools deeds) (first : Folder) (token 
 pub alone-backups : (deeds : SuiteDeeds) → AreOfTools deeds → (first : Folder)
     (history : History) → Lawful deeds first history → (token : Token) (old : History) →
     IsAlone token old history → (standing token history).commit ≡ Committed →
-    BackedUpChanges token history → (table : Tab) →
+    WroteDue token history → (table : Tab) →
     IsBackedUp (after first old) (after first history) table
 alone-backups deeds ours first history lawful token old alone is backed =
     subst (BackupsAlone deeds first (after first old) (after first history) (life token history)
@@ -406,4 +406,4 @@ alone-backups deeds ours first history lawful token old alone is backed =
     (subst (BackupsNow deeds ours first token old alone.fresh) (sym alone.parts)
     (own-steps deeds ours first token old alone.fresh alone.newer alone.own
     (subst (Lawful deeds first) alone.parts lawful)
-    (subst (BackedUpChanges token) alone.parts backed)))
+    (subst (WroteDue token) alone.parts backed)))

@@ -1,7 +1,7 @@
 -- Claim: a session that answered, and was alone since a moment, leaves its lock alone and free, no intent
 -- where its tool decided, and backups of what it changed; and a report the folder as it was
 -- (`leaves-alone`).
--- Way: what it has left by its own events (`HasLeft`, `BackedUpChanges`) is so in the folder, as nobody
+-- Way: what it has left by its own events (`HasLeft`, `WroteDue`) is so in the folder, as nobody
 -- else touched that (AloneLocks, AloneBackups, AloneStaging).
 use Rattle.std.proofs.Common.{◌≡◌, inl, inr, refl, sym, ap, subst, ◌∙◌, [], ◌∷◌, ℕ, true, false, Option, Some, None}
 use Rattle.acct_outside.specs.declared.CommitStage.TheVariants.{Before}
@@ -23,7 +23,7 @@ use Rattle.suite_answers.specs.declared.cause.Cause.TheVariants.{Changed, Same, 
 use Rattle.suite_answers.specs.declared.answer.Answer.{Answer}
 use Rattle.suite_answers.specs.Reasons.{stage_of}
 use Rattle.suite_session.specs.Runner.{Question}
-use Rattle.suite_session.specs.Backing.{BackedUpChanges}
+use Rattle.suite_session.specs.Writing.{WroteDue}
 use Rattle.suite_session.specs.Deeds.{AreOfTools}
 use Rattle.suite_session.specs.Reports.{RunsFree}
 use Rattle.suite_session.specs.Staging.{HasMovedAll}
@@ -101,12 +101,12 @@ module _ (deeds : SuiteDeeds) (asked : Question) (first : Folder) (past : Past) 
   pub leaves-alone : AreOfTools deeds → (old : History) → IsAlone token old past.history →
       (cause : Cause) → (standing token past.history).commit ≡ stage_of cause →
       IsShownAt deeds asked first past.history token given cause →
-      ((IsStopped cause → ⊥) → HasLeft token cause past) → BackedUpChanges token past.history →
+      ((IsStopped cause → ⊥) → HasLeft token cause past) → WroteDue token past.history →
       (is_report asked.request ≡ true → RunsFree token past.history) →
       DropsNothing token cause past.history → HasCome token past.history →
       ((IsStopped cause → ⊥) → HasMovedAll (standing token past.history)) →
       Leaves asked first old past.history token cause
-  leaves-alone ours old alone cause commits shown left backed free drops come moved = record {
+  leaves-alone ours old alone cause commits shown left wrote free drops come moved = record {
     report = λ is. folder-stays deeds first past.history lawful asked token
         (free-uncalled token past.history (free is).free) old alone;
     lock = λ quiet number kept. alone-lock deeds first token old past.history alone lawful number
@@ -120,5 +120,5 @@ module _ (deeds : SuiteDeeds) (asked : Question) (first : Folder) (past : Past) 
         alone-intent-none deeds first token old past.history alone lawful kept.0
         (leaves.freed kept.0 kept.1) (leaves.clean kept decided);
     backups = λ is. alone-backups deeds ours first past.history lawful token old alone
-        (commits ∙ ap stage_of is) backed;
+        (commits ∙ ap stage_of is) wrote;
   }

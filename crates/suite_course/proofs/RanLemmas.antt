@@ -134,6 +134,7 @@ module _ (asked : Question) (entry now : Moment) where
           (stays deeds ours others lawful);
       drops_nothing = answered.ended.drops_nothing;
       looks_once = answered.ended.looked;
+      wrote = answered.ended.wrote;
       free_reports = λ is. reports-freely runner given past.history
           (free-of runner past same answered is)
           (subst (λ (one : Question). Says one given given.outcome.cause) (sym same) says)
@@ -146,7 +147,7 @@ module _ (asked : Question) (entry now : Moment) where
           leaves-alone deeds asked was.first past runner.token given lawful_now ours earlier alone
           given.outcome.cause answered.ended.due.commits
           (answered-shows runner past same answered deeds was.first lawful_now).shown
-          answered.ended.left answered.ended.backed (free-of runner past same answered)
+          answered.ended.left answered.ended.wrote (free-of runner past same answered)
           answered.ended.drops_nothing (inr (_, answered.ended.before, answered.ended.last))
           answered.ended.moved;
     }

@@ -21,7 +21,7 @@ use Rattle.account_model.specs.Request.{is_report}
 use Rattle.suite_session.specs.Runner.{Runner}
 use Rattle.suite_session.specs.Reports.{RunsFree}
 use Rattle.suite_session.specs.Answers.{Says}
-use Rattle.suite_session.specs.Backing.{BackedUpChanges}
+use Rattle.suite_session.specs.Writing.{WroteDue}
 use Rattle.suite_session.specs.Belongs.{Belongs, CameTo}
 use Rattle.suite_session.specs.Bound.{HasCalled, HasCalledFree, IsWithin, calls_of}
 use Rattle.suite_session.specs.Counts.{CountsLower}
@@ -73,13 +73,13 @@ module _ (deeds : SuiteDeeds) (ours : AreOfTools deeds) where
         Says runner.asked answer answer.outcome.cause → IsDue runner answer past →
         ((IsStopped answer.outcome.cause → ⊥) → HasLeft runner.token answer.outcome.cause past) →
         DropsNothing runner.token answer.outcome.cause past.history →
-        IsWithin runner.token past.history → BackedUpChanges runner.token past.history →
+        IsWithin runner.token past.history → WroteDue runner.token past.history →
         (is_report runner.asked.request ≡ true → RunsFree runner.token past.history) →
         LooksOnce runner.token past.history → HasCome runner.token past.history →
         ((IsStopped answer.outcome.cause → ⊥) →
         HasMovedAll (standing runner.token past.history)) →
         Promises deeds runner answer past
-    promises-of past lawful says due left drops within backed free looks come moved =
+    promises-of past lawful says due left drops within wrote free looks come moved =
         let shows = shows-at deeds past.first past.history lawful runner.asked runner answer refl
         due.asked free due.commits due.shown in
         record {
@@ -90,13 +90,14 @@ module _ (deeds : SuiteDeeds) (ours : AreOfTools deeds) where
           shows = shows;
           drops_nothing = drops;
           looks_once = looks;
+          wrote = wrote;
           within = within;
           free_reports = λ is.
               reports-freely runner answer past.history (free is) says due.shown drops;
           left = left;
           moved = moved;
           leaves = λ old alone. leaves-alone deeds runner.asked past.first past runner.token
-              answer lawful ours old alone answer.outcome.cause due.commits shows.shown left backed
+              answer lawful ours old alone answer.outcome.cause due.commits shows.shown left wrote
               free drops come moved;
           complete = λ old alone opened inside. answers-as deeds runner.asked past.first old
               past.history runner.token lawful alone opened answer answer.outcome.cause refl
@@ -115,7 +116,7 @@ module _ (deeds : SuiteDeeds) (ours : AreOfTools deeds) where
     promises-told says admits None may due left came = tt
     promises-told says admits (Some past) may due left came =
         λ lawful. promises-of past lawful says due left came.remembers
-        (called-within runner.token answer past.history came.called) came.backed
+        (called-within runner.token answer past.history came.called) came.wrote
         (λ is. called-free runner.token answer past.history (came.free is))
         (looked-once runner.token (Answering answer) past.history came.looked) (inl may.runs)
         came.staged
@@ -155,7 +156,7 @@ module _ (deeds : SuiteDeeds) (ours : AreOfTools deeds) where
     left = belongs.left;
     texted = belongs.texted;
     promises = promises-of runner belongs.given past lawful belongs.says ended.due ended.left
-        ended.drops_nothing ended.within ended.backed ended.free ended.looked
+        ended.drops_nothing ended.within ended.wrote ended.free ended.looked
         (inr (_, ended.before, ended.last)) ended.moved;
   }) belongs.ended
   keeps-promises now (Unbegun tool answer) belongs = untold-promised now.told belongs

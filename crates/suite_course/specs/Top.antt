@@ -30,6 +30,7 @@ use Rattle.suite_session.specs.Deeds.{AreOfTools}
 use Rattle.suite_session.specs.Looks.{LooksOnce}
 use Rattle.suite_session.specs.Staging.{HasMovedAll}
 use Rattle.suite_session.specs.Telling.{DropsNothing}
+use Rattle.suite_session.specs.Writing.{WroteDue}
 use Rattle.suite_session.specs.Stands.{HasLeft, IsDiskFault, IsStopped}
 use Rattle.suite_session.specs.Locking.{cause_of_fault}
 use Rattle.suite_course.specs.Asked.{AsksThere}
@@ -74,11 +75,11 @@ pub record Answered (asked : Question) (outcome : Outcome) (token : Token) (hist
 -- A session of this token began in this call, between the two moments, with what was asked, and its
 -- last event is its answer. New events were admitted from others or are its own, which are within the
 -- bound; those of a report change no name. A lawful history shows what the answer tells; of all that the
--- session has met that drops nothing, and it looked at nothing again. Unless a fault or want of memory
--- stopped it, it has freed the lock that it kept, has moved all that it staged, and with an answer of its
--- tool it knows that no intent stands, be it that it carried one out, whatever others did. And where it was
--- alone since an earlier moment it leaves the locks, the staging names, the intent and the backups as it
--- must with that cause.
+-- session has met that drops nothing, and it looked at nothing again. Whatever it wrote was due, be it that
+-- a call failed. Unless a fault or want of memory stopped it, it has freed the lock that it kept, has moved
+-- all that it staged, and with an answer of its tool it knows that no intent stands, be it that it carried
+-- one out, whatever others did. And where it was alone since an earlier moment it leaves the locks, the
+-- staging names, the intent and the backups as it must with that cause.
 pub record HasRun (asked : Question) (admits : Admission) (given : Answer) (outcome : Outcome)
     (first : Folder) (old new : History) (token : Token) : Type 0 where
   pub answered : Answered asked outcome token new
@@ -87,6 +88,7 @@ pub record HasRun (asked : Question) (admits : Admission) (given : Answer) (outc
   pub shows : IfLawful admits first old (λ deeds. Shows deeds asked first new token given)
   pub drops_nothing : DropsNothing token given.outcome.cause new
   pub looks_once : LooksOnce token new
+  pub wrote : WroteDue token new
   pub free_reports : IfReportsFreely asked token given.outcome.cause new
   pub left : (IsStopped given.outcome.cause → ⊥) →
       HasLeft token given.outcome.cause (record { first = first; history = new })

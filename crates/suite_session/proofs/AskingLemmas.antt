@@ -2,12 +2,12 @@
 -- answers next (`asks-once`).
 -- Way: a call that failed is told as whatever was met, which an answer alone can be; want of memory is told
 -- by an answer.
-use Rattle.std.proofs.Common.{◌≡◌, ◌∷◌, refl, sym, ap, subst, ◌∙◌, List, Result, Ok, Err}
+use Rattle.std.proofs.Common.{◌≡◌, sym, subst, ◌∙◌, Result, Ok, Err}
 use Rattle.acct_outside.specs.declared.FolderFault.{FolderFault}
 use Rattle.acct_outside.specs.declared.FolderFault.TheVariants.{Failed, Memory as NoMemory}
 use Rattle.acct_outside.specs.Tokens.{Token}
 use Rattle.acct_outside.specs.Calls.{Answer, Call, begins, lists, reads, asks, creates, writes, appends, renames, removes, answers}
-use Rattle.acct_outside.specs.Journal.{Entry, makes, reply_of, was_refused}
+use Rattle.acct_outside.specs.Journal.{makes, reply_of, was_refused}
 use Rattle.acct_outside.specs.Moment.{Moment, Notes}
 use Rattle.suite_rules.specs.Standing.{Standing}
 use Rattle.suite_rules.specs.Steps.{MakesCall}

@@ -45,7 +45,7 @@ use Rattle.suite_session.specs.Stands.{FindsNoMemory, MakesOne, MayGive, IsOutsi
 use Rattle.suite_session.specs.Telling.{IsToTell, Remembers}
 use Rattle.suite_session.proofs.TellingLemmas.{tells-nothing, tells-own}
 use Rattle.suite_session.proofs.CauseLemmas.{told-says, told-cause, fault-failed, fault-plain}
-use Rattle.suite_session.proofs.BoundLemmas.{backed-first, called-first}
+use Rattle.suite_session.proofs.BoundLemmas.{wrote-first, called-first}
 use Rattle.suite_session.proofs.FreeLemmas.{free-first}
 use Rattle.suite_session.proofs.GrowsLemmas.{others-extend, second-empty, tells-grow}
 use Rattle.suite_session.proofs.LooksLemmas.{looked-first}
@@ -186,7 +186,7 @@ begin-came admits runner state is (Some before) (Some now) tells =
           runner.token before.history now.history _ tells.1.0 tells.1.1)));
       called = first-called runner state now.history tells.1.1 is;
       looked = first-looked runner state now.history tells.1.1 is;
-      backed = backed-first runner.token runner.asked.command now.history tells.1.1;
+      wrote = wrote-first runner.token runner.asked.command now.history tells.1.1;
       staged = staged-first runner.token runner.asked.command state now.history tells.1.1;
       free = λ report. first-free runner state now.history tells.1.1 is;
     }

@@ -33,7 +33,7 @@ use Rattle.suite_session.specs.Staging.{HasMovedAll}
 use Rattle.suite_session.specs.Stands.{Gives, HasLeft, KnowsDecided, StandsAs}
 use Rattle.suite_session.specs.Telling.{IsToTell, Tells}
 use Rattle.suite_session.specs.Turning.{IsUnbegun}
-use Rattle.suite_session.proofs.BoundLemmas.{backed-still, called-still, others-leave, others-never, within-still}
+use Rattle.suite_session.proofs.BoundLemmas.{wrote-still, called-still, others-leave, others-never, within-still}
 use Rattle.suite_session.proofs.DueLemmas.{shown-stays}
 use Rattle.suite_session.proofs.GrowsLemmas.{others-extend}
 use Rattle.suite_session.proofs.LeavingLemmas.{clean-same, left-same}
@@ -289,7 +289,7 @@ module _ (before now : Moment) (runner : Runner) (others : OthersCame before now
     called = called-still runner.token was.history past.history came state way.called;
     looked = looked-still runner.token state was.history past.history
         (others-leave runner.token was.history past.history came).same_events way.looked;
-    backed = backed-still runner.token was.history past.history came way.backed;
+    wrote = wrote-still runner.token was.history past.history came way.wrote;
     staged = subst (StagesAs state)
         (sym (others-leave runner.token was.history past.history came).same_standing) way.staged;
     free = λ report. free-still runner.token was.history past.history came state (way.free report);
@@ -313,7 +313,7 @@ module _ (before now : Moment) (runner : Runner) (others : OthersCame before now
     within = within-still runner.token was.history past.history came ended.within;
     looked = once-still runner.token was.history past.history
         (others-leave runner.token was.history past.history came).same_events ended.looked;
-    backed = backed-still runner.token was.history past.history came ended.backed;
+    wrote = wrote-still runner.token was.history past.history came ended.wrote;
     free = λ report. ran-still runner.token was.history past.history came (ended.free report);
   }
 

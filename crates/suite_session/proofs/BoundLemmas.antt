@@ -1,8 +1,8 @@
--- Claim: a turn of a session on its way keeps its calls within the bound (`called-then`), and its
--- backups to the tables that it is to change (`backed-then`); so do its begin (`called-first`), its answer
--- (`called-last`), and events of others (`called-still`, `within-still`).
+-- Claim: a turn of a session on its way keeps its calls within the bound (`called-then`), and what it
+-- writes to what is due (`wrote-then`); so do its begin (`called-first`), its answer (`called-last`), and
+-- events of others (`called-still`, `within-still`).
 -- Way: of a turn's new events one at most is the session's, of the call of its state (`grew-by`), and one
--- such call fewer is left; each new event says itself which table it backs up.
+-- such call fewer is left; each new event says itself what it writes.
 use Rattle.std.proofs.Common.{List, ◌≡◌, ◌⊎◌, refl, sym, ap, subst, ◌<◌, ◌≤◌, ◌+◌, ◌∙◌, ◌++◌, [], ◌∷◌, ℕ, Bool, true, false, not, cond, filter, length, inl, inr, Some, None, arith}
 use Rattle.std.specs.List.{AllByRecursion}
 use Rattle.acct_outside.specs.Tokens.{Token}
@@ -16,7 +16,7 @@ use Rattle.suite_answers.specs.declared.answer.Answer.{Answer}
 use Rattle.suite_session.specs.declared.state.State.{State}
 use Rattle.suite_session.specs.declared.state.State.TheVariants.{Looking, Reading, Asking, Claiming, Confirming, Answering}
 use Rattle.suite_session.specs.Runner.{Runner}
-use Rattle.suite_session.specs.Backing.{BackedUpChanges}
+use Rattle.suite_session.specs.Writing.{WroteDue}
 use Rattle.suite_session.specs.Belongs.{of_others}
 use Rattle.suite_session.specs.Bound.{HasCalled, IsWithin, appends_in, calls_of, others_in}
 use Rattle.suite_session.specs.Counts.{CountsLower, CountsTo, IsToList, LeavesFewer, Nears, appends_by, others_by}
@@ -25,7 +25,7 @@ use Rattle.suite_session.specs.Left.{appends_left, calls_left, is_append, most_a
 use Rattle.suite_session.specs.NextCall.{state_call}
 use Rattle.suite_session.specs.Stands.{FindsNoMemory}
 use Rattle.suite_session.specs.Texts.{GoesOn, HoldsText, LeadTo, StageTexts}
-use Rattle.suite_session.proofs.BackingLemmas.{NeverBacksUp, own-backed, grows-backed}
+use Rattle.suite_session.proofs.WritingLemmas.{IsAlwaysDue, own-wrote, grows-wrote}
 use Rattle.suite_session.proofs.DueLemmas.{met-later}
 use Rattle.acct_outside.specs.Journal.{Entry}
 use Rattle.suite_session.proofs.GrowsLemmas.{grows-extends, others-extend, others-grow}
@@ -171,21 +171,20 @@ called-first token command state history lower only most counts fewer few holds 
       (lead-first command state holds);
 }
 
--- and has backed up nothing
-pub backed-first : (token : Token) (command : Command) (history : History) →
+-- and has written nothing
+pub wrote-first : (token : Token) (command : Command) (history : History) →
     own_events token history
     ≡ record { token = token; call = begins command; result = done tt } ∷ [] →
-    BackedUpChanges token history
-backed-first token command history only = own-backed token history
-    (subst (AllByRecursion NeverBacksUp) (sym only) (λ stood. tt, tt))
+    WroteDue token history
+wrote-first token command history only = own-wrote token history
+    (subst (AllByRecursion IsAlwaysDue) (sym only) (λ stood. tt, tt))
 
 module _ (admits : Admission) (runner : Runner) (was past : Past)
     (own : NeverAdmits admits runner.token)
     (grown : Grows admits runner.token was.history 1 past.history) where
-  -- the next turn keeps its backups to the tables that it is to change
-  pub backed-then : BackedUpChanges runner.token was.history →
-      BackedUpChanges runner.token past.history
-  backed-then = grows-backed admits runner.token was.history own 1 past.history grown
+  -- the next turn writes what is due
+  pub wrote-then : WroteDue runner.token was.history → WroteDue runner.token past.history
+  wrote-then = grows-wrote admits runner.token was.history own 1 past.history grown
 
   -- the history is longer
   longer : (newer : History) × (past.history ≡ newer ++ was.history)
@@ -331,9 +330,9 @@ module _ (token : Token) (old new : History) (came : ByOthers (of_others token) 
   pub others-leave : Stayed token old new
   others-leave = stayed (of_others token) token (others-never token) old new came
 
-  -- its backups too
-  pub backed-still : BackedUpChanges token old → BackedUpChanges token new
-  backed-still = grows-backed (of_others token) token old (others-never token) 0 new
+  -- and what it wrote was due
+  pub wrote-still : WroteDue token old → WroteDue token new
+  wrote-still = grows-wrote (of_others token) token old (others-never token) 0 new
       (others-grow (of_others token) token old 0 new came)
 
   -- the lower locks that are counted too

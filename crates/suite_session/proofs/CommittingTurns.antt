@@ -4,9 +4,6 @@
 -- Way: the typed step gives the standing. Just before the commit the session is a clean keeper that
 -- has seen the inputs, and this stays an earlier moment of each longer history.
 use Rattle.std.proofs.Common.{◌≡◌, [], refl, sym, ap, subst, ◌∙◌, Option, Some, None, IfSome, Result, Ok, Err}
-use Rattle.acct_text.specs.Bytes.{Bytes}
-use Rattle.acct_text.specs.Contents.{Contents}
-use Rattle.acct_text.specs.Files.{table_of}
 use Rattle.acct_outside.specs.declared.FolderFault.{FolderFault}
 use Rattle.acct_outside.specs.declared.FolderFault.TheVariants.{Failed, Memory as NoMemory}
 use Rattle.acct_outside.specs.declared.StageFault.{StageFault}
@@ -14,7 +11,7 @@ use Rattle.acct_outside.specs.declared.CommitStage.{CommitStage}
 use Rattle.acct_outside.specs.declared.CommitStage.TheVariants.{Before, Committed}
 use Rattle.acct_outside.specs.declared.Name.TheVariants.{Intent, IntentStage}
 use Rattle.acct_outside.specs.Tokens.{Token}
-use Rattle.acct_outside.specs.Calls.{Command, Call, Answer, CallResult, renames}
+use Rattle.acct_outside.specs.Calls.{Call, Answer, CallResult, renames}
 use Rattle.acct_outside.specs.Contract.{MayAnswer}
 use Rattle.suite_rules.specs.Deeds.{SuiteDeeds}
 use Rattle.suite_rules.specs.Knowledge.{nothing_seen}
@@ -42,7 +39,7 @@ use Rattle.suite_session.specs.Due.{AnsweredAll, IsShown, IsDue}
 use Rattle.suite_session.specs.Grows.{Grew}
 use Rattle.suite_session.specs.Locking.{cause_of_fault}
 use Rattle.suite_session.specs.Stands.{AnswersWith, IsOutside, IsOfChange, Gives, Extends, StandsAs, StandsChanging, StandsInstalling, StandsUnlocking}
-use Rattle.suite_session.proofs.BackingLemmas.{IsTurnCall, made-deed}
+use Rattle.suite_session.proofs.WritingLemmas.{IsTurnCall, change-deed}
 use Rattle.suite_session.proofs.LeavingLemmas.{fault-stopped, clean-known}
 use Rattle.suite_session.proofs.CauseLemmas.{IsMetAs, fault-stage, told-met, told-stage, told-plain, told-says, plain-shown, fault-plain}
 use Rattle.suite_session.proofs.TurnLemmas.{HasMetNow, goes-on, extended, told-left}
@@ -192,13 +189,8 @@ module _ (before now : Moment) (runner : Runner) (answer : FinalAnswer) where
     is-deed deeds ours =
         stands-weaker before.admits change.inputs.keeper.token
         (Runs runner Before (HasStagedIntent stager)) (IsDeed deeds change)
-        (λ one runs. record {
-          command = runner.asked.command;
-          is_asked = runs.asked;
-          is_deed = ap (λ (deed : Command → Contents → Option Bytes → Option Contents).
-              deed runner.asked.command (table_of change.inputs.files) change.inputs.defs)
-              ours.is_deed ∙ made-deed runner answer change stood.of_change;
-        })
+        (λ one runs.
+        change-deed runner answer change stood.of_change deeds ours one runs.asked)
         before.told
         (subst (λ (token : Token). StandsIn before token
         (Runs runner Before (HasStagedIntent stager))) (sym stood.same) stood.stands)

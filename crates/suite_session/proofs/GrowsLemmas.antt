@@ -11,7 +11,7 @@ use Rattle.acct_outside.specs.Others.{Admission, ByOthers, none_came, one_came, 
 use Rattle.acct_outside.specs.Moment.{Past, Narrows}
 use Rattle.suite_rules.specs.Standing.{standing}
 use Rattle.suite_rules.proofs.Parts.{TellsWhere}
-use Rattle.suite_session.specs.Backing.{BacksUpChange}
+use Rattle.suite_session.specs.Writing.{WritesDue}
 use Rattle.suite_session.specs.Grows.{Grows, none_new, others_new, own_new, Grew}
 use Rattle.suite_session.specs.Stands.{Extends}
 
@@ -31,11 +31,11 @@ module _ (admits : Admission) (token : Token) (old : History) where
   -- an own event after them is one
   event-grows : (own : Event) (new : History) → own.token ≡ token →
       ((between : History) → ByOthers admits old between →
-      BacksUpChange (standing token between) own.call) →
+      WritesDue (standing token between) own.call) →
       ByOthersThen admits old own new → Grows admits token old 1 new
-  event-grows own new is backs then = subst (Grows admits token old 1) (sym then.last)
+  event-grows own new is due then = subst (Grows admits token old 1) (sym then.last)
       (own_new 0 own then.between (others-grow 0 then.between then.others) is
-      (backs then.between then.others))
+      (due then.between then.others))
 
   -- by another name of the number
   as-many : (most same : ℕ) (new : History) → most ≡ same → Grows admits token old most new →
@@ -48,8 +48,8 @@ module _ (admits : Admission) (token : Token) (old : History) where
   grows-one most _ (none_new _) = none_new (suc most)
   grows-one most _ (others_new _ event new grown admitted) =
       others_new (suc most) event new (grows-one most new grown) admitted
-  grows-one _ _ (own_new most event new grown is backs) =
-      own_new (suc most) event new (grows-one most new grown) is backs
+  grows-one _ _ (own_new most event new grown is due) =
+      own_new (suc most) event new (grows-one most new grown) is due
 
   -- or any number more
   grows-more : (most more : ℕ) (new : History) → Grows admits token old most new →
@@ -66,7 +66,7 @@ module _ (admits : Admission) (token : Token) (old : History) where
   grows-extends most _ (others_new _ event new grown admitted) =
       let before = grows-extends most new grown in
       (event ∷ before.0, ap (λ (events : History). event ∷ events) before.1)
-  grows-extends _ _ (own_new most event new grown is backs) =
+  grows-extends _ _ (own_new most event new grown is due) =
       let before = grows-extends most new grown in
       (event ∷ before.0, ap (λ (events : History). event ∷ events) before.1)
 
@@ -76,7 +76,7 @@ module _ (admits : Admission) (token : Token) (old : History) where
   none-grows most _ none (none_new _) = none_came
   none-grows most _ none (others_new _ event new grown admitted) =
       one_came event new (none-grows most new none grown) admitted
-  none-grows _ _ none (own_new most event new grown is backs) = absurd (cc none)
+  none-grows _ _ none (own_new most event new grown is due) = absurd (cc none)
 
 -- what grows while the folder admits less grows while it admits more
 grows-wider : (more fewer : Admission) → Narrows more fewer → (token : Token) (old : History)
@@ -85,8 +85,8 @@ grows-wider more fewer narrows token old most _ (none_new _) = none_new most
 grows-wider more fewer narrows token old most _ (others_new _ event new grown admitted) =
     others_new most event new (grows-wider more fewer narrows token old most new grown)
     (narrows new event admitted)
-grows-wider more fewer narrows token old _ _ (own_new most event new grown is backs) =
-    own_new most event new (grows-wider more fewer narrows token old most new grown) is backs
+grows-wider more fewer narrows token old _ _ (own_new most event new grown is due) =
+    own_new most event new (grows-wider more fewer narrows token old most new grown) is due
 
 -- what grows twice grows by both
 grows-then : (admits : Admission) (token : Token) (old between : History) (made most : ℕ)
@@ -97,10 +97,10 @@ grows-then admits token old between made most _ first (none_new _) =
 grows-then admits token old between made most _ first (others_new _ event new grown admitted) =
     others_new (made + most) event new
     (grows-then admits token old between made most new first grown) admitted
-grows-then admits token old between made _ _ first (own_new most event new grown is backs) =
+grows-then admits token old between made _ _ first (own_new most event new grown is due) =
     as-many admits token old (suc (made + most)) (made + suc most) (event ∷ new) (omega arith)
     (own_new (made + most) event new
-    (grows-then admits token old between made most new first grown) is backs)
+    (grows-then admits token old between made most new first grown) is due)
 
 -- admitted events of others extend a history
 pub others-extend : (admits : Admission) (old new : History) → ByOthers admits old new →
@@ -110,31 +110,31 @@ others-extend admits old new came =
 
 -- ---- Where the folder tells its history
 
--- where the call backs up a table, its session is to change that, after whatever events of others
-abbrev pub BacksUpThen : Admission → Token → Call → Option Past → Type 0
-BacksUpThen admits token call before = (past : Past) → before ≡ Some past → (between : History) →
-    ByOthers admits past.history between → BacksUpChange (standing token between) call
+-- what the call writes is due, after whatever events of others
+abbrev pub WritesDueThen : Admission → Token → Call → Option Past → Type 0
+WritesDueThen admits token call before = (past : Past) → before ≡ Some past → (between : History) →
+    ByOthers admits past.history between → WritesDue (standing token between) call
 
 -- such a call makes one event of its session, or none
 pub tells-grow : (admits : Admission) (token : Token) (call : Call)
     (answer : Result (Answer call) FolderFault) (before now : Option Past) →
-    BacksUpThen admits token call before → TellsWhere admits before now token call answer →
+    WritesDueThen admits token call before → TellsWhere admits before now token call answer →
     Grew admits token 1 before now
-tells-grow admits token call answer None None backs tells = tt
-tells-grow admits token call (Ok answer) (Some before) (Some now) backs tells = (
+tells-grow admits token call answer None None due tells = tt
+tells-grow admits token call (Ok answer) (Some before) (Some now) due tells = (
   tells.0,
-  event-grows admits token before.history _ now.history refl (backs before refl)
+  event-grows admits token before.history _ now.history refl (due before refl)
       tells.1.others_then,
 )
-tells-grow admits token call (Err Failed) (Some before) (Some now) backs tells = (
+tells-grow admits token call (Err Failed) (Some before) (Some now) due tells = (
   tells.0,
-  event-grows admits token before.history _ now.history refl (backs before refl)
+  event-grows admits token before.history _ now.history refl (due before refl)
       tells.1.1.others_then,
 )
-tells-grow admits token call (Err NoMemory) (Some before) (Some now) backs tells =
+tells-grow admits token call (Err NoMemory) (Some before) (Some now) due tells =
     (tells.0, others-grow admits token before.history 1 now.history tells.1)
-tells-grow admits token call answer None (Some now) backs tells = absurd tells
-tells-grow admits token call answer (Some before) None backs tells = absurd tells
+tells-grow admits token call answer None (Some now) due tells = absurd tells
+tells-grow admits token call answer (Some before) None due tells = absurd tells
 
 -- so it extends the history
 pub grew-extends : (admits : Admission) (token : Token) (most : ℕ) (before now : Option Past) →

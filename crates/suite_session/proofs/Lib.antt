@@ -2,7 +2,7 @@ pub mod Parts
 pub mod AnswerLemmas
 pub mod AppendsLemmas
 mod AskingLemmas
-pub mod BackingLemmas
+pub mod WritingLemmas
 pub mod BeginTurns
 mod BelongingTurns
 pub mod BelongsLemmas
@@ -14,6 +14,7 @@ mod CommitCalls
 mod CommittingTurns
 mod WalkingLemmas
 pub mod DueLemmas
+mod DueTextLemmas
 pub mod FreeLemmas
 mod DyingLemmas
 pub mod GrowsLemmas

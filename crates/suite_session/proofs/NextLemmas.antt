@@ -1,13 +1,9 @@
 -- Claim: a session that belongs to a folder is ready for the call of its state, and its life has a place
 -- for it (`next-ready`); where it reads a lock, it has listed one (`has-lock`).
 -- Way: by the state, as it stands there; an answer is the one that the streams left.
-use Rattle.std.proofs.Common.{◌≡◌, refl, sym, ap, subst, ◌∙◌, Option, Some, None, IfSome, Result}
+use Rattle.std.proofs.Common.{◌≡◌, refl, sym, ap, subst, ◌∙◌, Some, None, IfSome, Result}
 use Rattle.std.specs.Prelude.{IfOk}
-use Rattle.acct_text.specs.Bytes.{Bytes}
-use Rattle.acct_text.specs.Contents.{Contents}
-use Rattle.acct_text.specs.Files.{table_of}
 use Rattle.acct_outside.specs.declared.Call.{Call as FolderCall}
-use Rattle.acct_outside.specs.Calls.{Command}
 use Rattle.acct_outside.specs.Life.{Life, MayCall, life, running}
 use Rattle.acct_outside.specs.Moment.{Past, Moment}
 use Rattle.acct_outside.specs.declared.CommitStage.{CommitStage}
@@ -32,7 +28,7 @@ use Rattle.suite_session.specs.Moment.{At, Runs}
 use Rattle.suite_session.specs.NextCall.{HasLock, IsReady, state_call}
 use Rattle.suite_session.specs.Session.{given_in}
 use Rattle.suite_session.specs.Stands.{StandsAs}
-use Rattle.suite_session.proofs.BackingLemmas.{made-deed}
+use Rattle.suite_session.proofs.WritingLemmas.{change-deed}
 use Rattle.suite_session.proofs.BelongsLemmas.{told-both}
 use Rattle.suite_session.proofs.MetLemmas.{told-as}
 use Rattle.suite_session.proofs.RuleLemmas.{rule-left}
@@ -119,14 +115,7 @@ module _ (now : Moment) (runner : Runner) where
           going Before (HasStagedIntent stager) (Committing stager answer)
           (λ stood runs. (
             runs.holds,
-            record {
-              command = runner.asked.command;
-              is_asked = runs.asked;
-              is_deed = ap (λ (deed : Command → Contents → Option Bytes → Option Contents).
-                  deed runner.asked.command (table_of stager.change.inputs.files)
-                  stager.change.inputs.defs)
-                  ours.is_deed ∙ made-deed runner answer stager.change stands.of_change;
-            },
+            change-deed runner answer stager.change stands.of_change deeds ours stood runs.asked,
           )) may stands.stands
       next-ready (Installing walker answer) may way =
           going Committed (Installs walker) (Installing walker answer)

@@ -19,9 +19,8 @@ use Rattle.acct_text.specs.Limits.{table_limit}
 use Rattle.acct_text.specs.SeenTables.{is_among, seen_of, seen_through}
 use Rattle.acct_text.specs.Tables.{all_tables}
 use Rattle.acct_text.proofs.FilesLemmas.{seen-there}
-use Rattle.acct_outside.specs.declared.Name.{Name}
 use Rattle.acct_outside.specs.declared.Name.TheVariants.{Table, Defs}
-use Rattle.acct_outside.specs.Calls.{Command, Found, found_absent, found_bytes, found_too_large, found_within}
+use Rattle.acct_outside.specs.Calls.{Found, found_absent, found_bytes, found_too_large, found_within}
 use Rattle.account_model.specs.Text.{first_some}
 use Rattle.account_model.specs.Answer.{FileProblem, SettingsTooLarge, TableAbsent, TableTooLarge, files_problem, must_stand, settings_problem, table_problem}
 use Rattle.intent_file.specs.Intent.{Intended, ReadsIntent, listed_in}

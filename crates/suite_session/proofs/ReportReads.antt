@@ -37,7 +37,7 @@ use Rattle.suite_session.specs.Moment.{At, Runs}
 use Rattle.suite_session.specs.NextCall.{state_call}
 use Rattle.suite_session.specs.Stands.{AnswersWith, Turns, StagesTo}
 use Rattle.suite_session.specs.Telling.{IsToTell}
-use Rattle.suite_session.proofs.BackingLemmas.{IsTurnCall}
+use Rattle.suite_session.proofs.WritingLemmas.{IsTurnCall}
 use Rattle.suite_session.proofs.CallsLemmas.{other-fewer}
 use Rattle.suite_session.proofs.CauseLemmas.{fault-failed, fault-plain, fault-stage}
 use Rattle.suite_session.proofs.LeavingLemmas.{fault-stopped}

@@ -3,7 +3,7 @@
 -- Way: a problem of what was shown is the first problem of all files that are as was shown, and without one
 -- those are the files that it has kept (proofs/ReportProblems). So its answer is that on all of them
 -- (`problem-shown`, `stays-shown`), and a report has no lock to leave (`reported-gives`).
-use Rattle.std.proofs.Common.{◌≡◌, refl, sym, ap, subst, ◌∙◌, ◌==◌, ℕ, true, false, List, inl, inr, Option, Some, None, IfSome, Result, Ok, Err, true≢false, arith}
+use Rattle.std.proofs.Common.{◌≡◌, refl, sym, ap, subst, ◌∙◌, ℕ, true, false, List, inl, inr, Option, Some, None, IfSome, Result, Ok, Err, true≢false, arith}
 use Rattle.acct_text.specs.Bytes.{Bytes}
 use Rattle.acct_text.specs.declared.Tab.{Tab}
 use Rattle.acct_text.specs.declared.files.Files.{Files}

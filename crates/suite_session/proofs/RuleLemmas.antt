@@ -3,12 +3,11 @@
 -- Way: a cause that is no tool's answer has a status of its own (`lock-some` and the others); a
 -- change comes after the own commit; and what else has status 0 is an answer on files that the
 -- session saw.
-use Rattle.std.proofs.Common.{◌≡◌, refl, sym, ap, subst, ◌∙◌, ◌==◌, ◌&&◌, not, ℕ, Bool, true, false, inl, inr, Option, Some, Result, Ok, Err, rules}
+use Rattle.std.proofs.Common.{◌≡◌, refl, sym, ap, ◌∙◌, ◌==◌, ◌&&◌, not, ℕ, Bool, true, false, inl, inr, Option, Some, Result, Ok, Err, rules}
 use Rattle.acct_text.specs.declared.files.Files.{Files}
 use Rattle.acct_text.specs.Bytes.{Bytes}
 use Rattle.acct_text.specs.Contents.{Contents}
 use Rattle.acct_text.specs.Files.{table_of}
-use Rattle.acct_outside.specs.Calls.{Command}
 use Rattle.acct_outside.specs.declared.streams.SinkFault.{SinkFault}
 use Rattle.acct_outside.specs.declared.streams.SinkFault.TheVariants.{Failed, Memory as NoMemory}
 use Rattle.acct_outside.specs.History.{History}

@@ -41,7 +41,7 @@ use Rattle.suite_session.specs.Telling.{DropsNothing, MayFollow, Tells as CauseT
 use Rattle.suite_session.proofs.TellingLemmas.{tells-others, tells-own}
 use Rattle.suite_session.proofs.LeavingLemmas.{left-same}
 use Rattle.suite_session.proofs.BelongsLemmas.{state-own}
-use Rattle.suite_session.proofs.BoundLemmas.{backed-then, called-last, called-then}
+use Rattle.suite_session.proofs.BoundLemmas.{wrote-then, called-last, called-then}
 use Rattle.suite_session.proofs.FreeLemmas.{StandsFree, free-last, free-then, reported-after, stands-free}
 use Rattle.suite_session.proofs.GrowsLemmas.{grows-extends, tells-grow}
 use Rattle.suite_session.proofs.DueLemmas.{shown-stays}
@@ -72,7 +72,7 @@ came-on admits runner old new (Some was) (Some past) journal counts at less free
       called = called-then admits runner was past own grew.1 new old journal
           one.1 counts came.called;
       looked = looked-then runner.token old new was past (FindsNoMemory new) one.1 less came.looked;
-      backed = backed-then admits runner was past own grew.1 came.backed;
+      wrote = wrote-then admits runner was past own grew.1 came.wrote;
       staged = staged-then runner old new was past journal counts one.1 at came.staged;
       free = λ report. free-then runner old new was past
           (free report (came.free report).free) (FindsNoMemory new) journal one.1 counts
@@ -222,7 +222,7 @@ module _ (before now : Moment) (runner : Runner) (status : ℕ) where
               (inl (_, step.next_events)) came.called;
           looked = looked-last runner.token (Answering answer) status was past step.next_events
               came.looked;
-          backed = backed-then before.admits runner was past may.own grew.1 came.backed;
+          wrote = wrote-then before.admits runner was past may.own grew.1 came.wrote;
           free = λ report. free-last runner answer status was past step.next_events
               (came.free report);
         };

@@ -36,7 +36,7 @@ use Rattle.suite_session.specs.NextCall.{state_call}
 use Rattle.suite_session.specs.Telling.{IsToTell, MayFollow}
 use Rattle.suite_session.specs.Stands.{Extends, FindsNoMemory, Gives, MakesOne, MayGive, HasLeft, StandsAs, AnswersWith, LeavesWith, IsOutside, IsStopped, StagesTo, TellsOutside, Turns}
 use Rattle.suite_session.proofs.AskingLemmas.{asks-once}
-use Rattle.suite_session.proofs.BackingLemmas.{IsTurnCall, turn-no-answer, turn-backs-then}
+use Rattle.suite_session.proofs.WritingLemmas.{IsTurnCall, turn-no-answer, turn-writes-then}
 use Rattle.suite_session.proofs.CauseLemmas.{IsMetAs, IsPlain, answers-fault, fault-failed, fault-plain, fault-stage, given-cause, plain-shown, plain-undecided, told-cause, told-met, told-plain, told-says, told-stage}
 use Rattle.suite_session.proofs.GrowsLemmas.{tells-grow, grew-extends}
 use Rattle.suite_session.proofs.LeavingLemmas.{KeepsNone, LeavesUnkept, clean-else, fault-stopped, none-left}
@@ -173,7 +173,7 @@ module _ (before now : Moment) (runner : Runner) (commit : CommitStage) (Held : 
   -- the history got an event of the runner, or none, after those of others
   pub grown : Grew before.admits runner.token 1 before.told now.told
   grown = tells-grow before.admits runner.token call by-runner.answer before.told now.told
-      (turn-backs-then before.admits runner.token (Runs runner commit Held) call of_turn
+      (turn-writes-then before.admits runner.token (Runs runner commit Held) call of_turn
       before.told stands) by-runner.told
 
   -- so it is extended

@@ -26,7 +26,9 @@ use Rattle.acct_outside.specs.declared.CommitStage.{CommitStage}
 use Rattle.suite_session.specs.Moment.{Runs}
 use Rattle.suite_session.specs.Telling.{IsLeavingCall, MayFollow}
 use Rattle.suite_session.specs.Stands.{IsOutside, StandsUnlocking, StandsFreeing, Turns}
+use Rattle.suite_session.proofs.DueTextLemmas.{free-due}
 use Rattle.suite_session.proofs.TurnLemmas.{goes-on, extended, turns}
+use Rattle.suite_session.proofs.WritingLemmas.{IsTurnCall}
 use Rattle.suite_session.proofs.LeavingLemmas.{clean-stays, freed-left}
 use Rattle.suite_session.proofs.LooksLemmas.{few-less}
 use Rattle.suite_session.proofs.MeetingLemmas.{locks-done, quiet-on}
@@ -126,13 +128,15 @@ module _ (before now : Moment) (runner : Runner) (answer : FinalAnswer) where
     stages freeing called made next left lawful never_falls =
         let is = leads (freeing_of keeper) made.answer freeing made.shown in
         let call = writes FreeStage free_text in
+        let due : IsTurnCall (Runs runner commit (Keeps keeper KnowsAnything)) call =
+        free-due runner commit keeper in
         let stands = goes-on before now runner commit (Keeps keeper KnowsAnything) stood.stands
-        keeper.token stood.same call tt _ (λ result stood. refl) made
+        keeper.token stood.same call due _ (λ result stood. refl) made
         (HasStagedFree freeing) next in
         let kept_work = subst (λ (token : Token). Leaves work token before now) stood.same
         left in
         turns before now runner commit (Keeps keeper KnowsAnything) stood.stands keeper.token
-        stood.same call tt _ (λ result stood. refl) made lawful never_falls
+        stood.same call due _ (λ result stood. refl) made lawful never_falls
         (Unlocking keeper answer) (Freeing freeing answer) called
         (quiet-on call (λ given one met shows. shows) made.answer tt _ _
         (locks-done _ _ _ made.shown).1)
@@ -153,7 +157,7 @@ module _ (before now : Moment) (runner : Runner) (answer : FinalAnswer) where
               before now stood.stands stands
               kept_work
               (extended before now runner commit (Keeps keeper KnowsAnything) stood.stands
-              keeper.token stood.same call tt _ (λ result stood. refl) made)
+              keeper.token stood.same call due _ (λ result stood. refl) made)
               stood.gives;
         })
         (λ fault. fault) refl

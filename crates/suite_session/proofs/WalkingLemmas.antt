@@ -1,5 +1,5 @@
--- Claims: a call for the next table of a change backs up a table that differs (`backup-calls`), or nothing
--- (`install-calls`); it neither commits (`backup-quiet`, `install-quiet`) nor shows anything that a session
+-- Claims: a call for the next table of a change backs up a table that differs, or stages what is due
+-- (`backup-calls`, `install-calls`); it neither commits (`backup-quiet`, `install-quiet`) nor shows anything that a session
 -- meets (`backup-shows`, `install-shows`); and each step leaves fewer (`fewer-steps`, `changed-most`).
 -- Way: a table is staged first and then moved, so by whether it is staged.
 use Rattle.std.proofs.Common.{◌≡◌, inl, inr, [], refl, sym, ap, subst, ◌∙◌, ◌≤◌, ◌<◌, ◌+◌, ◌-◌, ◌*◌, ◌∷◌, ℕ, Bool, true, false, List, length, slice_get, if◌then◌else◌, Option, Some, None, IfSome, arith, rules}
@@ -13,14 +13,14 @@ use Rattle.acct_text.specs.Contents.{Contents, same_content}
 use Rattle.acct_outside.specs.declared.Name.TheVariants.{Backup, BackupStage}
 use Rattle.acct_outside.specs.Calls.{Answer, CallResult, renames, writes}
 use Rattle.acct_outside.specs.Pieces.{piece_at}
-use Rattle.acct_outside.specs.declared.CommitStage.TheVariants.{Before}
+use Rattle.acct_outside.specs.declared.CommitStage.TheVariants.{Before, Committed}
 use Rattle.intent_file.specs.Intent.{NewTable}
 use Rattle.acct_text.specs.ChangedTables.{with_new_table, changed_among}
 use Rattle.suite_rules.specs.Standing.{Standing, standing_step}
 use Rattle.suite_rules.specs.Steps.{own_command}
 use Rattle.suite_rules.specs.Outcomes.{installs, stages}
 use Rattle.commit_steps.specs.States.{Walker, changed, has_staged, old_bytes, step_on, steps_left}
-use Rattle.commit_steps.specs.Stands.{BacksUp}
+use Rattle.commit_steps.specs.Stands.{BacksUp, Installs}
 use Rattle.commit_steps.specs.Outcomes.{backup_call, install_call}
 use Rattle.commit_steps.proofs.InstallLemmas.{step-staged, step-unstaged}
 use Rattle.commit_steps.proofs.TablesLemmas.{place-within}
@@ -28,28 +28,30 @@ use Rattle.suite_answers.specs.declared.answer.Answer.{Answer as FinalAnswer}
 use Rattle.suite_session.specs.Runner.{Runner}
 use Rattle.suite_session.specs.Moment.{Runs}
 use Rattle.suite_session.specs.Stands.{IsOfChange}
-use Rattle.suite_session.proofs.BackingLemmas.{IsTurnCall, is-to-change}
+use Rattle.suite_session.proofs.DueTextLemmas.{backs-due, installs-due}
+use Rattle.suite_session.proofs.WritingLemmas.{IsTurnCall, is-to-change}
 use Rattle.suite_session.proofs.MeetingLemmas.{IsQuiet}
 
 -- ---- Calls for a table at the place
 
--- a backup is of a table that differs, so the session is to change it
+-- a backup is of a table that differs, so the session is to change it; what is staged of it is due
 pub backup-calls : (runner : Runner) (answer : FinalAnswer) (walker : Walker) (next : NewTable) →
     IsOfChange runner walker.change answer →
     slice_get (changed walker.change) walker.place ≡ Some next →
     IsTurnCall (Runs runner Before (BacksUp walker)) (backup_call walker next)
-backup-calls runner answer walker next of_change is = cases (has_staged walker)
+backup-calls runner answer walker next of_change is = cases (has_staged walker) refl
   where
-    cases : (staged : Bool) → IsTurnCall (Runs runner Before (BacksUp walker))
+    cases : (staged : Bool) → has_staged walker ≡ staged →
+        IsTurnCall (Runs runner Before (BacksUp walker))
         (if staged then renames BackupStage (Backup next.table)
         else writes BackupStage (piece_at 0 (old_bytes walker.change next.table)))
-    cases true = λ stood runs. is-to-change runner answer walker.change of_change walker.place next
-        is stood (record {
+    cases true begun = λ stood runs. is-to-change runner answer walker.change of_change
+        walker.place next is stood (record {
           holds = runs.holds.keeps.knows.inputs;
           asked = runs.asked;
           commits = runs.commits;
         })
-    cases false = tt
+    cases false unstaged = backs-due runner answer walker next is of_change unstaged
 
 -- neither a write nor a rename of a backup commits
 pub backup-quiet : (walker : Walker) (next : NewTable)
@@ -76,15 +78,16 @@ backup-shows walker next = cases (has_staged walker)
     cases true given stood met shows = shows
     cases false given stood met shows = shows
 
--- nor does one of an installation, which backs up nothing
-pub install-calls : (Stood : Standing → Type 0) (walker : Walker) (next : NewTable) →
-    IsTurnCall Stood (install_call walker next)
-install-calls Stood walker next = cases (has_staged walker)
+-- nor does one of an installation, which stages what is due
+pub install-calls : (runner : Runner) (walker : Walker) (next : NewTable) →
+    slice_get (changed walker.change) walker.place ≡ Some next →
+    IsTurnCall (Runs runner Committed (Installs walker)) (install_call walker next)
+install-calls runner walker next is = cases (has_staged walker)
   where
-    cases : (staged : Bool) →
-        IsTurnCall Stood (if staged then installs next else stages next)
+    cases : (staged : Bool) → IsTurnCall (Runs runner Committed (Installs walker))
+        (if staged then installs next else stages next)
     cases true = tt
-    cases false = tt
+    cases false = installs-due runner walker next is
 
 -- a call that installs a table leaves the session's command as it was
 pub install-quiet : (walker : Walker) (next : NewTable)

@@ -21,7 +21,7 @@ use Rattle.suite_session.specs.declared.session.Phase.{Phase}
 use Rattle.suite_session.specs.declared.session.Phase.TheVariants.{Waiting, Begun, Over, Unbegun}
 use Rattle.suite_session.specs.Runner.{Runner}
 use Rattle.suite_session.specs.Answers.{IsTold, Says, after_streams}
-use Rattle.suite_session.specs.Backing.{BackedUpChanges}
+use Rattle.suite_session.specs.Writing.{WroteDue}
 use Rattle.suite_session.specs.Bound.{HasCalled, HasCalledFree, IsWithin}
 use Rattle.suite_session.specs.Due.{IsDue}
 use Rattle.suite_session.specs.Locking.{cause_of_fault}
@@ -41,15 +41,14 @@ StagesAs (Answering answer) stood = (IsStopped answer.outcome.cause → ⊥) →
 StagesAs state stood = StagesAt (staged_in state) stood
 
 -- The runner came to the state, from a begin that gave its token: it drops nothing that it has met, its
--- calls are within the bound with those that are left, and so are its looks, it has backed up tables that it
--- was to change alone, has moved what it has staged but at the name of its state, and a report has changed
--- no name.
+-- calls are within the bound with those that are left, and so are its looks, it has written what was due
+-- alone, has moved what it has staged but at the name of its state, and a report has changed no name.
 pub record CameTo (runner : Runner) (state : State) (past : Past) : Type 0 where
   pub named : IsToken runner.token
   pub remembers : Remembers runner.token state past.history
   pub called : HasCalled runner.token state past.history
   pub looked : HasLooksLeft runner.token state past.history
-  pub backed : BackedUpChanges runner.token past.history
+  pub wrote : WroteDue runner.token past.history
   pub staged : StagesAs state (standing runner.token past.history)
   pub free : is_report runner.asked.request ≡ true →
       HasCalledFree runner.token state past.history
@@ -72,7 +71,7 @@ pub record IsOnItsWay (now : Moment) (runner : Runner) (state : State) : Type 0 
 -- The last of the runner's events is its answer, with this status. What it had to give is due and drops
 -- nothing that it has met; it has left the locks and the intent as it must with that, and has moved all that
 -- it staged, unless a fault or want of memory stopped it; its events are within the bound, and so are its
--- looks, it has backed up tables that it was to change alone, and a report has changed no name.
+-- looks, it has written what was due alone, and a report has changed no name.
 pub record HasEnded (runner : Runner) (given : Answer) (status : ℕ) (past : Past) : Type 0 where
   pub named : IsToken runner.token
   pub before : History
@@ -86,7 +85,7 @@ pub record HasEnded (runner : Runner) (given : Answer) (status : ℕ) (past : Pa
       HasMovedAll (standing runner.token past.history)
   pub within : IsWithin runner.token past.history
   pub looked : LooksOnce runner.token past.history
-  pub backed : BackedUpChanges runner.token past.history
+  pub wrote : WroteDue runner.token past.history
   pub free : is_report runner.asked.request ≡ true → RunsFree runner.token past.history
 
 -- the runner had an answer to give, has answered with what the streams left of it, and the folder admits

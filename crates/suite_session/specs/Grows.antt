@@ -6,11 +6,10 @@ use Rattle.acct_outside.specs.Others.{Admission}
 use Rattle.acct_outside.specs.Moment.{Past}
 use Rattle.acct_outside.specs.Contract.{WhereTold}
 use Rattle.suite_rules.specs.Standing.{standing}
-use Rattle.suite_session.specs.Backing.{BacksUpChange}
+use Rattle.suite_session.specs.Writing.{WritesDue}
 
 -- The newer history is the older one with new events after it. Each was admitted from others at its
--- place or is the session's own; of its own there are at most so many, and each that moves a file to a
--- backup is of a table that the session is to change.
+-- place or is the session's own; of its own there are at most so many, and what each writes is due.
 pub data Grows (admits : Admission) (token : Token) (old : History) : ℕ → History → Type 0 where
   none_new : (most : ℕ) → Grows admits token old most old
   others_new : (most : ℕ) (event : Event) (new : History)
@@ -18,7 +17,7 @@ pub data Grows (admits : Admission) (token : Token) (old : History) : ℕ → Hi
       → Grows admits token old most (event ∷ new)
   own_new : (most : ℕ) (event : Event) (new : History)
       → Grows admits token old most new → event.token ≡ token
-      → BacksUpChange (standing token new) event.call
+      → WritesDue (standing token new) event.call
       → Grows admits token old (suc most) (event ∷ new)
 
 -- so it is where the folder tells its history

@@ -7,7 +7,6 @@ pub mod Causes
 pub mod Reports
 pub mod Due
 pub mod Telling
-pub mod Backing
 pub mod Grows
 pub mod NextCall
 pub mod Texts
@@ -24,3 +23,4 @@ pub mod Session
 pub mod Belongs
 pub mod Turning
 pub mod Dying
+pub mod Writing

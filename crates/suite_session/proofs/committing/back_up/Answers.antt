@@ -17,6 +17,7 @@ use Rattle.suite_session.proofs.WalkingLemmas.{at-piece}
 use Rattle.suite_session.proofs.MeetingLemmas.{quiet-on, leads-done, leads-ended}
 use Rattle.suite_session.proofs.CallsLemmas.{answers-append, backing-some, some-left}
 use Rattle.suite_session.proofs.CommitCalls.{backed-more, backing-appends}
+use Rattle.suite_session.proofs.DueTextLemmas.{backs-more-due}
 use Rattle.suite_session.proofs.committing.back_up.Goals as goal
 
 pub back_up_table-requires : goal.back_up_table-requires
@@ -35,9 +36,11 @@ returns-in-Ok g c = record {
       let some = some-left _ _ c.pieces.ensures c.if-pieces-eq0.false in
       let shown = at-piece (λ one. pieces_left walker.staged (old_bytes walker.change one.table))
       (next_table walker) some c.in-Ok.ensures.call in
+      let due = backs-more-due c.args.runner.now c.args.answer walker shown.0 shown.2
+      c.requires.of_change some in
       let done = leads-done (append_on walker) before_commit _ c.in-Ok.backing shown.1.shown in
       turns before now c.args.runner.now Before (BacksUp walker) c.requires.stands (token_of walker)
-      c.requires.same (backs_up_more walker shown.0) tt _ (λ result stood. refl) shown.1
+      c.requires.same (backs_up_more walker shown.0) due _ (λ result stood. refl) shown.1
       c.append_next.ensures.lawful c.append_next.ensures.faults.never_falls
       (BackingUp walker c.args.answer) (BackingUp c.in-Ok.backing c.args.answer)
       (backs-on walker shown.0 shown.2 some)
@@ -45,7 +48,7 @@ returns-in-Ok g c = record {
       _ _ done.1)
       (λ met none. absurd none)
       (backs-to before now c.args.runner.now c.args.answer walker c.requires
-      (backs_up_more walker shown.0) tt (λ result stood. refl) (append_on walker) c.in-Ok.backing
+      (backs_up_more walker shown.0) due (λ result stood. refl) (append_on walker) c.in-Ok.backing
       refl shown.1 c.in-Ok.ensures.next)
       (λ fault. fault)
       (backup-added walker shown.0 shown.2 c.args.answer c.in-Ok.backing
@@ -69,10 +72,12 @@ returns-in-Err g c = record {
       let some = some-left _ _ c.pieces.ensures c.if-pieces-eq0.false in
       let shown = at-piece (λ one. pieces_left walker.staged (old_bytes walker.change one.table))
       (next_table walker) some c.in-Err.ensures.call in
+      let due = backs-more-due c.args.runner.now c.args.answer walker shown.0 shown.2
+      c.requires.of_change some in
       let fault = c.in-Err.fault in
       let stage = leads-stage (append_on walker) Before shown.1.answer fault shown.1.shown in
       faults before now c.args.runner.now Before (BacksUp walker) c.requires.stands
-      (token_of walker) c.requires.same (backs_up_more walker shown.0) tt _ (λ result stood. refl)
+      (token_of walker) c.requires.same (backs_up_more walker shown.0) due _ (λ result stood. refl)
       shown.1
       c.append_next.ensures.lawful c.append_next.ensures.faults.never_falls
       (BackingUp walker c.args.answer) c.given_up.result (backs-on walker shown.0 shown.2 some)

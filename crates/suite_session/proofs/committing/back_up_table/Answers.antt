@@ -26,12 +26,13 @@ returns-in-Ok g c = record {
       let now = g.F.Folder.moment c.back_up_next.new.folder in
       let shown = at-place c.args.backing (some-left _ _ c.left.ensures c.if-left-eq0.false)
       c.in-Ok.ensures.call in
+      let due = backup-calls c.args.runner.now c.args.answer c.args.backing shown.0
+      c.requires.stands.of_change shown.2 in
       let done = leads-done (step_on c.args.backing) before_commit _ c.in-Ok.backing shown.1.shown
       in
       turns before now c.args.runner.now Before (BacksUp c.args.backing)
       c.requires.stands.stands (token_of c.args.backing) c.requires.stands.same
-      (backup_call c.args.backing shown.0) (backup-calls c.args.runner.now c.args.answer
-      c.args.backing shown.0 c.requires.stands.of_change shown.2) _
+      (backup_call c.args.backing shown.0) due _
       (backup-quiet c.args.backing shown.0) shown.1
       c.back_up_next.ensures.lawful c.back_up_next.ensures.faults.never_falls
       (BackingUp c.args.backing c.args.answer) (BackingUp c.in-Ok.backing c.args.answer)
@@ -41,8 +42,7 @@ returns-in-Ok g c = record {
       done.0 _ _ done.1)
       (λ met none. absurd none)
       (backs-to before now c.args.runner.now c.args.answer c.args.backing c.requires.stands
-      (backup_call c.args.backing shown.0) (backup-calls c.args.runner.now c.args.answer
-      c.args.backing shown.0 c.requires.stands.of_change shown.2)
+      (backup_call c.args.backing shown.0) due
       (backup-quiet c.args.backing shown.0) (step_on c.args.backing) c.in-Ok.backing
       (step-change c.args.backing) shown.1 c.in-Ok.ensures.next)
       (λ fault. fault)
@@ -66,12 +66,13 @@ returns-in-Err g c = record {
       let now = g.F.Folder.moment c.back_up_next.new.folder in
       let shown = at-place c.args.backing (some-left _ _ c.left.ensures c.if-left-eq0.false)
       c.in-Err.ensures.call in
+      let due = backup-calls c.args.runner.now c.args.answer c.args.backing shown.0
+      c.requires.stands.of_change shown.2 in
       let fault = c.in-Err.fault in
       let stage = leads-stage (step_on c.args.backing) Before shown.1.answer fault shown.1.shown in
       faults before now c.args.runner.now Before (BacksUp c.args.backing)
       c.requires.stands.stands (token_of c.args.backing) c.requires.stands.same
-      (backup_call c.args.backing shown.0) (backup-calls c.args.runner.now c.args.answer
-      c.args.backing shown.0 c.requires.stands.of_change shown.2) _
+      (backup_call c.args.backing shown.0) due _
       (backup-quiet c.args.backing shown.0) shown.1
       c.back_up_next.ensures.lawful c.back_up_next.ensures.faults.never_falls
       (BackingUp c.args.backing c.args.answer) c.given_up.result

@@ -15,6 +15,7 @@ use Rattle.suite_session.proofs.CommittingTurns.{adds-intent}
 use Rattle.suite_session.proofs.MeetingLemmas.{quiet-on, leads-done, leads-ended}
 use Rattle.suite_session.proofs.CallsLemmas.{answers-append, committing-some, some-left}
 use Rattle.suite_session.proofs.CommitCalls.{committing-appends, staged-more}
+use Rattle.suite_session.proofs.DueTextLemmas.{intent-more-due}
 use Rattle.suite_session.proofs.committing.commit.Goals as goal
 
 pub commit_intent-requires : goal.commit_intent-requires
@@ -32,17 +33,18 @@ returns-in-Ok g c = record {
       let stager = c.args.staged in
       let some = some-left _ _ c.pieces.ensures c.if-pieces-eq0.false in
       let call = appends IntentStage (intent_piece stager.staged stager.change) in
+      let due = intent-more-due c.args.runner.now c.args.answer stager c.requires.of_change some in
       let done = leads-done (append_intent stager) before_commit _ c.in-Ok.staged
       c.in-Ok.ensures.call.shown in
       turns before now c.args.runner.now Before (HasStagedIntent stager) c.requires.stands
-      stager.change.inputs.keeper.token c.requires.same call tt _ (λ result stood. refl)
+      stager.change.inputs.keeper.token c.requires.same call due _ (λ result stood. refl)
       c.in-Ok.ensures.call
       c.append_intent.ensures.lawful c.append_intent.ensures.faults.never_falls
       (Committing stager c.args.answer) (Committing c.in-Ok.staged c.args.answer)
       (commits-on stager some)
       (quiet-on call (λ given one met shows. shows) c.in-Ok.ensures.call.answer done.0 _ _ done.1)
       (λ met none. absurd none)
-      (adds-intent before now c.args.runner.now c.args.answer stager c.requires call tt
+      (adds-intent before now c.args.runner.now c.args.answer stager c.requires call due
       (λ result stood. refl) c.in-Ok.staged c.in-Ok.ensures.call c.in-Ok.ensures.next)
       (λ fault. fault) refl
       (few-less (Committing stager c.args.answer) (Committing c.in-Ok.staged c.args.answer) tt refl);
@@ -62,11 +64,12 @@ returns-in-Err g c = record {
       let stager = c.args.staged in
       let some = some-left _ _ c.pieces.ensures c.if-pieces-eq0.false in
       let call = appends IntentStage (intent_piece stager.staged stager.change) in
+      let due = intent-more-due c.args.runner.now c.args.answer stager c.requires.of_change some in
       let fault = c.in-Err.fault in
       let stage = leads-stage (append_intent stager) Before c.in-Err.ensures.call.answer fault
       c.in-Err.ensures.call.shown in
       faults before now c.args.runner.now Before (HasStagedIntent stager) c.requires.stands
-      stager.change.inputs.keeper.token c.requires.same call tt _ (λ result stood. refl)
+      stager.change.inputs.keeper.token c.requires.same call due _ (λ result stood. refl)
       c.in-Err.ensures.call
       c.append_intent.ensures.lawful c.append_intent.ensures.faults.never_falls
       (Committing stager c.args.answer) c.given_up.result (commits-on stager some)

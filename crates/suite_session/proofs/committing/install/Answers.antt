@@ -17,6 +17,7 @@ use Rattle.suite_session.proofs.WalkingLemmas.{at-piece}
 use Rattle.suite_session.proofs.MeetingLemmas.{quiet-on, leads-done, leads-ended}
 use Rattle.suite_session.proofs.CallsLemmas.{answers-append, installing-some, some-left}
 use Rattle.suite_session.proofs.CommitCalls.{installed-more, installing-appends}
+use Rattle.suite_session.proofs.DueTextLemmas.{installs-more-due}
 use Rattle.suite_session.proofs.committing.install.Goals as goal
 
 pub install_table-requires : goal.install_table-requires
@@ -35,10 +36,11 @@ returns-in-Ok g c = record {
       let some = some-left _ _ c.pieces.ensures c.if-pieces-eq0.false in
       let shown = at-piece (λ one. pieces_left walker.staged one.bytes)
       (next_table walker) some c.in-Ok.ensures.call in
+      let due = installs-more-due c.args.runner.now walker shown.0 shown.2 some in
       let done = leads-done (append_on walker) after_commit _ c.in-Ok.installing shown.1.shown in
       turns before now c.args.runner.now Committed (Installs walker) c.requires.stands
       (token_of walker)
-      c.requires.same (installs_more walker shown.0) tt _ (λ result stood. refl) shown.1
+      c.requires.same (installs_more walker shown.0) due _ (λ result stood. refl) shown.1
       c.append_next.ensures.lawful c.append_next.ensures.faults.never_falls
       (Installing walker c.args.answer) (Installing c.in-Ok.installing c.args.answer)
       (adds-on walker shown.0 shown.2 some)
@@ -46,7 +48,7 @@ returns-in-Ok g c = record {
       _ _ done.1)
       (λ met none. absurd none)
       (installs-to before now c.args.runner.now c.args.answer walker c.requires
-      (installs_more walker shown.0) tt _ (λ result stood. refl) shown.1 (append_on walker)
+      (installs_more walker shown.0) due _ (λ result stood. refl) shown.1 (append_on walker)
       c.in-Ok.installing refl
       (leads-on (append_on walker) after_commit shown.1.answer c.in-Ok.installing shown.1.shown)
       c.in-Ok.ensures.next)
@@ -74,10 +76,11 @@ returns-in-Err g c = record {
       let some = some-left _ _ c.pieces.ensures c.if-pieces-eq0.false in
       let shown = at-piece (λ one. pieces_left walker.staged one.bytes)
       (next_table walker) some c.in-Err.ensures.call in
+      let due = installs-more-due c.args.runner.now walker shown.0 shown.2 some in
       let fault = c.in-Err.fault in
       let stage = leads-stage (append_on walker) Committed shown.1.answer fault shown.1.shown in
       faults before now c.args.runner.now Committed (Installs walker) c.requires.stands
-      (token_of walker) c.requires.same (installs_more walker shown.0) tt _ (λ result stood. refl)
+      (token_of walker) c.requires.same (installs_more walker shown.0) due _ (λ result stood. refl)
       shown.1
       c.append_next.ensures.lawful c.append_next.ensures.faults.never_falls
       (Installing walker c.args.answer) c.given_up.result (adds-on walker shown.0 shown.2 some)

@@ -26,11 +26,12 @@ returns-in-Ok g c = record {
       let now = g.F.Folder.moment c.install_next.new.folder in
       let shown = at-place c.args.installing (some-left _ _ c.left.ensures c.if-left-eq0.false)
       c.in-Ok.ensures.call in
+      let due = install-calls c.args.runner.now c.args.installing shown.0 shown.2 in
       let done = leads-done (step_on c.args.installing) after_commit _ c.in-Ok.installing
       shown.1.shown in
       turns before now c.args.runner.now Committed (Installs c.args.installing)
       c.requires.stands.stands (token_of c.args.installing) c.requires.stands.same
-      (install_call c.args.installing shown.0) (install-calls _ c.args.installing shown.0) _
+      (install_call c.args.installing shown.0) due _
       (install-quiet c.args.installing shown.0) shown.1
       c.install_next.ensures.lawful c.install_next.ensures.faults.never_falls
       (Installing c.args.installing c.args.answer) (Installing c.in-Ok.installing c.args.answer)
@@ -39,7 +40,7 @@ returns-in-Ok g c = record {
       shown.1.answer done.0 _ _ done.1)
       (λ met none. absurd none)
       (installs-to before now c.args.runner.now c.args.answer c.args.installing c.requires.stands
-      (install_call c.args.installing shown.0) (install-calls _ c.args.installing shown.0) _
+      (install_call c.args.installing shown.0) due _
       (install-quiet c.args.installing shown.0) shown.1 (step_on c.args.installing)
       c.in-Ok.installing (step-change c.args.installing)
       (leads-on (step_on c.args.installing) after_commit shown.1.answer c.in-Ok.installing
@@ -66,12 +67,13 @@ returns-in-Err g c = record {
       let now = g.F.Folder.moment c.install_next.new.folder in
       let shown = at-place c.args.installing (some-left _ _ c.left.ensures c.if-left-eq0.false)
       c.in-Err.ensures.call in
+      let due = install-calls c.args.runner.now c.args.installing shown.0 shown.2 in
       let fault = c.in-Err.fault in
       let stage = leads-stage (step_on c.args.installing) Committed shown.1.answer fault
       shown.1.shown in
       faults before now c.args.runner.now Committed (Installs c.args.installing)
       c.requires.stands.stands (token_of c.args.installing) c.requires.stands.same
-      (install_call c.args.installing shown.0) (install-calls _ c.args.installing shown.0) _
+      (install_call c.args.installing shown.0) due _
       (install-quiet c.args.installing shown.0) shown.1
       c.install_next.ensures.lawful c.install_next.ensures.faults.never_falls
       (Installing c.args.installing c.args.answer) c.given_up.result

@@ -16,6 +16,7 @@ use Rattle.suite_session.proofs.CommittingTurns.{stages-intent}
 use Rattle.suite_session.proofs.MeetingLemmas.{quiet-on, leads-done, leads-ended}
 use Rattle.suite_session.proofs.CallsLemmas.{answers-fewer, backing-some}
 use Rattle.suite_session.proofs.CommitCalls.{intended-calls}
+use Rattle.suite_session.proofs.DueTextLemmas.{intent-due}
 use Rattle.suite_session.proofs.committing.stage_intent.Goals as goal
 
 pub returns-in-Ok : goal.returns-in-Ok
@@ -23,11 +24,13 @@ returns-in-Ok g c = record {
   turns =
       let before = g.F.Folder.moment c.args.folder.now in
       let now = g.F.Folder.moment c.stage_intent.new.folder in
+      let due = intent-due c.args.runner.now c.args.answer c.args.backing
+      c.requires.stands.of_change c.requires.left in
       let done = leads-done (begun_of c.args.backing.change) before_commit _ c.in-Ok.staged
       c.in-Ok.ensures.call.shown in
       turns before now c.args.runner.now Before (BacksUp c.args.backing)
       c.requires.stands.stands (token_of c.args.backing) c.requires.stands.same
-      (writes IntentStage (intent_piece 0 c.args.backing.change)) tt _
+      (writes IntentStage (intent_piece 0 c.args.backing.change)) due _
       (λ result stood. refl)
       c.in-Ok.ensures.call
       c.stage_intent.ensures.lawful c.stage_intent.ensures.faults.never_falls
@@ -37,7 +40,7 @@ returns-in-Ok g c = record {
       (λ given one met shows. shows) c.in-Ok.ensures.call.answer done.0 _ _ done.1)
       (λ met none. absurd none)
       (stages-intent before now c.args.runner.now c.args.answer c.args.backing c.requires.stands
-      (writes IntentStage (intent_piece 0 c.args.backing.change)) tt (λ result stood. refl)
+      (writes IntentStage (intent_piece 0 c.args.backing.change)) due (λ result stood. refl)
       c.in-Ok.staged c.in-Ok.ensures.call c.in-Ok.ensures.next)
       (λ fault. fault) refl
       (few-less (BackingUp c.args.backing c.args.answer) (Committing c.in-Ok.staged c.args.answer)
@@ -54,13 +57,15 @@ returns-in-Err g c = record {
   turns =
       let before = g.F.Folder.moment c.args.folder.now in
       let now = g.F.Folder.moment c.stage_intent.new.folder in
+      let due = intent-due c.args.runner.now c.args.answer c.args.backing
+      c.requires.stands.of_change c.requires.left in
       let fault = c.in-Err.fault in
       let stage = leads-stage (begun_of c.args.backing.change) Before
       c.in-Err.ensures.call.answer fault
       c.in-Err.ensures.call.shown in
       faults before now c.args.runner.now Before (BacksUp c.args.backing)
       c.requires.stands.stands (token_of c.args.backing) c.requires.stands.same
-      (writes IntentStage (intent_piece 0 c.args.backing.change)) tt _
+      (writes IntentStage (intent_piece 0 c.args.backing.change)) due _
       (λ result stood. refl) c.in-Err.ensures.call
       c.stage_intent.ensures.lawful c.stage_intent.ensures.faults.never_falls
       (BackingUp c.args.backing c.args.answer) c.given_up.result

@@ -1,4 +1,4 @@
-use Rattle.std.proofs.Common.{◌≡◌, sym, subst, Ok}
+use Rattle.std.proofs.Common.{◌≡◌, sym, subst}
 use Rattle.std.specs.Prelude.{OnOk}
 use Rattle.acct_outside.specs.NamedCalls.{call_of}
 use Rattle.memory_folder.specs.Events.{effect_in}

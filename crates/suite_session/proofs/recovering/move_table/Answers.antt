@@ -13,6 +13,7 @@ use Rattle.suite_session.proofs.RecoveringTurns.{some-next}
 use Rattle.suite_session.proofs.LeadsLemmas.{leads-on, leads-stage, leads-failed}
 use Rattle.suite_session.proofs.MeetingLemmas.{quiet-on, leads-done, leads-ended}
 use Rattle.suite_session.proofs.CallsLemmas.{added-calls, answers-append, moving-appends, moving-some, some-left}
+use Rattle.suite_session.proofs.DueTextLemmas.{recovers-more-due}
 use Rattle.suite_session.proofs.recovering.move_table.Goals as goal
 
 pub move_whole-requires : goal.move_whole-requires
@@ -36,11 +37,12 @@ returns-in-Ok g c = record {
       let moving = c.args.moving in
       let some = some-left _ _ c.pieces.ensures c.if-pieces-eq0.false in
       let shown = some-next moving.left c.requires.1 c.in-Ok.ensures.call in
+      let due = recovers-more-due c.args.runner.now moving shown.0 shown.2 in
       let call = stages_more moving.staged shown.0 in
       let is = leads-on (appended_once moving) before_commit _ c.in-Ok.moving shown.1.shown in
       let done = leads-done (appended_once moving) before_commit _ c.in-Ok.moving shown.1.shown in
       turns before now c.args.runner.now Before (HasStagedNext moving) c.requires.2
-      moving.keeper.token c.requires.0 call tt _ (λ result stood. refl) shown.1
+      moving.keeper.token c.requires.0 call due _ (λ result stood. refl) shown.1
       c.append_next.ensures.lawful c.append_next.ensures.faults.never_falls (Moving moving)
       (Moving c.in-Ok.moving) (moves-on moving shown.0 shown.2 some)
       (quiet-on call (λ given one met shows. shows) shown.1.answer done.0 _ _ done.1)
@@ -48,7 +50,7 @@ returns-in-Ok g c = record {
         ap (λ (one : Mover). one.keeper.token) is ∙ c.requires.0,
         subst (λ (one : Mover). 0 < length one.left) (sym is) c.requires.1,
         goes-on before now c.args.runner.now Before (HasStagedNext moving) c.requires.2
-            moving.keeper.token c.requires.0 call tt _ (λ result stood. refl) shown.1
+            moving.keeper.token c.requires.0 call due _ (λ result stood. refl) shown.1
             (HasStagedNext c.in-Ok.moving) c.in-Ok.ensures.next,
       )
       (λ fault. fault)
@@ -70,10 +72,11 @@ returns-in-Err g c = record {
       let moving = c.args.moving in
       let some = some-left _ _ c.pieces.ensures c.if-pieces-eq0.false in
       let shown = some-next moving.left c.requires.1 c.in-Err.ensures.call in
+      let due = recovers-more-due c.args.runner.now moving shown.0 shown.2 in
       let call = stages_more moving.staged shown.0 in
       let fault = c.in-Err.fault in
       faults before now c.args.runner.now Before (HasStagedNext moving) c.requires.2
-      moving.keeper.token c.requires.0 call tt _ (λ result stood. refl) shown.1
+      moving.keeper.token c.requires.0 call due _ (λ result stood. refl) shown.1
       c.append_next.ensures.lawful c.append_next.ensures.faults.never_falls (Moving moving)
       c.stopped.result (moves-on moving shown.0 shown.2 some)
       (λ met none. absurd none) fault.stage fault.fault

@@ -15,6 +15,7 @@ use Rattle.suite_session.proofs.LeadsLemmas.{leads-on, leads-stage, leads-failed
 use Rattle.acct_outside.specs.declared.CommitStage.TheVariants.{Before}
 use Rattle.suite_session.proofs.MeetingLemmas.{quiet-on, leads-done, leads-ended}
 use Rattle.suite_session.proofs.CallsLemmas.{answers-fewer, recovering-some, staged-calls, some-left}
+use Rattle.suite_session.proofs.DueTextLemmas.{recovers-due}
 use Rattle.suite_session.proofs.recovering.recover.Goals as goal
 
 pub stage_next-requires-clause-stands : goal.stage_next-requires-clause-stands
@@ -30,13 +31,14 @@ returns-in-Ok g c = record {
       let now = g.F.Folder.moment c.stage_next.new.folder in
       let shown = some-next c.args.recovering.left
       (some-left _ _ c.left.ensures c.if-left-eq0.false) c.in-Ok.ensures.call in
+      let due = recovers-due c.args.runner.now c.args.recovering shown.0 shown.2 in
       let is = leads-on (mover_of 1 c.args.recovering) before_commit _
       c.in-Ok.moving shown.1.shown in
       let done = leads-done (mover_of 1 c.args.recovering) before_commit _
       c.in-Ok.moving shown.1.shown in
       turns before now c.args.runner.now Before (Recovers c.args.recovering)
       c.requires.1
-      c.args.recovering.keeper.token c.requires.0 (stages shown.0) tt _ (λ result stood. refl)
+      c.args.recovering.keeper.token c.requires.0 (stages shown.0) due _ (λ result stood. refl)
       shown.1
       c.stage_next.ensures.lawful c.stage_next.ensures.faults.never_falls
       (Recovering c.args.recovering)
@@ -49,7 +51,7 @@ returns-in-Ok g c = record {
             (some-left _ _ c.left.ensures c.if-left-eq0.false),
         goes-on before now c.args.runner.now Before (Recovers c.args.recovering)
             c.requires.1
-            c.args.recovering.keeper.token c.requires.0 (stages shown.0) tt _ (λ result stood. refl)
+            c.args.recovering.keeper.token c.requires.0 (stages shown.0) due _ (λ result stood. refl)
             shown.1
             (HasStagedNext c.in-Ok.moving) c.in-Ok.ensures.next,
       )
@@ -71,10 +73,11 @@ returns-in-Err g c = record {
       let now = g.F.Folder.moment c.stage_next.new.folder in
       let shown = some-next c.args.recovering.left
       (some-left _ _ c.left.ensures c.if-left-eq0.false) c.in-Err.ensures.call in
+      let due = recovers-due c.args.runner.now c.args.recovering shown.0 shown.2 in
       let fault = c.in-Err.fault in
       faults before now c.args.runner.now Before (Recovers c.args.recovering)
       c.requires.1
-      c.args.recovering.keeper.token c.requires.0 (stages shown.0) tt _ (λ result stood. refl)
+      c.args.recovering.keeper.token c.requires.0 (stages shown.0) due _ (λ result stood. refl)
       shown.1
       c.stage_next.ensures.lawful c.stage_next.ensures.faults.never_falls
       (Recovering c.args.recovering) c.stopped.result

@@ -1,4 +1,4 @@
-use Rattle.std.proofs.Common.{◌≡◌, refl, subst, Ok}
+use Rattle.std.proofs.Common.{refl, subst, Ok}
 use Rattle.acct_outside.specs.Calls.{answers}
 use Rattle.acct_outside.specs.Contract.{Tells}
 use Rattle.suite_session.specs.Runner.{IsRead, Runner}

@@ -11,6 +11,7 @@ use Rattle.suite_answers.specs.Reasons.{stage_of}
 use Rattle.suite_session.specs.declared.state.State.TheVariants.{Unlocking}
 use Rattle.suite_session.proofs.TextsLemmas.{freed-text}
 use Rattle.suite_session.proofs.CallsLemmas.{answers-fewer, unlocking-more, unlocking-some, other-fewer}
+use Rattle.suite_session.proofs.DueTextLemmas.{free-due}
 use Rattle.suite_session.proofs.unlocking.stage_free.Goals as goal
 
 pub stage_free-requires-clause-stands : goal.stage_free-requires-clause-stands
@@ -40,7 +41,8 @@ returns-in-Err g c = record {
       let now = g.F.Folder.moment c.stage_free.new.folder in
       faults before now c.args.runner.now _ (Keeps c.args.keeper KnowsAnything)
       c.requires.stands.stands c.args.keeper.token c.requires.stands.same
-      (writes FreeStage free_text) tt _ (λ result stood. refl)
+      (writes FreeStage free_text) (free-due c.args.runner.now _ c.args.keeper) _
+      (λ result stood. refl)
       c.in-Err.ensures.call
       c.stage_free.ensures.lawful c.stage_free.ensures.faults.never_falls
       (Unlocking c.args.keeper c.args.answer) c.replaced.result

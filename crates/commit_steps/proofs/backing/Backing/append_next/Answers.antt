@@ -4,7 +4,6 @@ use Rattle.acct_outside.specs.declared.FolderFault.TheVariants.{Failed}
 use Rattle.acct_outside.specs.declared.Name.TheVariants.{BackupStage}
 use Rattle.acct_outside.specs.Pieces.{piece_at}
 use Rattle.acct_outside.specs.Calls.{appends}
-use Rattle.acct_outside.specs.Contract.{Tells}
 use Rattle.suite_rules.specs.Steps.{own_command}
 use Rattle.suite_rules.specs.Outcomes.{LeadsTo, before_commit}
 use Rattle.suite_rules.proofs.StepLemmas.{Called, called-of}

@@ -5,7 +5,6 @@ use Rattle.acct_outside.specs.declared.FolderFault.TheVariants.{Failed}
 use Rattle.acct_outside.specs.declared.Name.TheVariants.{BackupStage}
 use Rattle.acct_outside.specs.Pieces.{piece_at}
 use Rattle.acct_outside.specs.Calls.{writes}
-use Rattle.acct_outside.specs.Contract.{Tells}
 use Rattle.suite_rules.specs.Outcomes.{LeadsTo, before_commit}
 use Rattle.suite_rules.proofs.StepLemmas.{Called, called-of}
 use Rattle.lock_steps.proofs.OutcomesLemmas.{counts}

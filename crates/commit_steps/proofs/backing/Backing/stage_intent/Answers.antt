@@ -2,7 +2,6 @@ use Rattle.std.proofs.Common.{refl, ap, subst, ◌∙◌}
 use Rattle.acct_outside.specs.declared.Name.TheVariants.{IntentStage}
 use Rattle.acct_text.specs.Bytes.{Bytes}
 use Rattle.acct_outside.specs.Calls.{writes}
-use Rattle.acct_outside.specs.Contract.{Tells}
 use Rattle.intent_file.specs.Intent.{ReadsIntent, intent_text}
 use Rattle.acct_outside.specs.declared.FolderFault.TheVariants.{Failed}
 use Rattle.suite_rules.specs.Outcomes.{LeadsTo, before_commit}
@@ -45,9 +44,9 @@ returns g c =
     (writes IntentStage c.intent_piece-piece.result.now) written
     (c.token.ensures ∙ ap (λ (change : Change). change.inputs.keeper.token) change)
     (record { told = c.write-written.ensures.told; noted = c.write-written.ensures.noted })) in
-    takes-step (stages_intent walker reads_it) tt (BacksUp walker) HasStagedIntent
+    takes-step (stages_intent walker) tt (BacksUp walker) HasStagedIntent
     (begun_of walker.change) (intent-after-write walker reads_it c.requires.left) tt
-    (λ result stood held. refl) (may-stage-intent walker reads_it)
+    (λ result stood held. refl) (may-stage-intent walker)
     before_commit before now narrows (token_of walker) written c.leads.result shown
     c.requires.stands tells
     (counts (before_commit Failed) _ _ written c.leads.result c.leads.ensures.failed

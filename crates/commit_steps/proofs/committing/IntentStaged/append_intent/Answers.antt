@@ -3,7 +3,6 @@ use Rattle.acct_text.specs.Bytes.{Bytes}
 use Rattle.acct_outside.specs.declared.FolderFault.TheVariants.{Failed}
 use Rattle.acct_outside.specs.declared.Name.TheVariants.{IntentStage}
 use Rattle.acct_outside.specs.Calls.{appends}
-use Rattle.acct_outside.specs.Contract.{Tells}
 use Rattle.intent_file.specs.Pieces.{intent_pieces}
 use Rattle.suite_rules.specs.Outcomes.{LeadsTo, before_commit}
 use Rattle.suite_rules.proofs.StepLemmas.{Called, called-of}

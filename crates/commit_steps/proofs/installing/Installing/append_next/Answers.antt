@@ -1,6 +1,5 @@
 use Rattle.std.proofs.Common.{◌≡◌, ℕ, arith, refl, ap, subst, ◌∙◌, slice_get, Some}
 use Rattle.acct_outside.specs.declared.FolderFault.TheVariants.{Failed}
-use Rattle.acct_outside.specs.Contract.{Tells}
 use Rattle.acct_outside.specs.Pieces.{piece_count}
 use Rattle.suite_rules.specs.Outcomes.{LeadsTo, after_commit, stages_more}
 use Rattle.suite_rules.specs.Steps.{own_command}

@@ -3,7 +3,7 @@ use Rattle.acct_outside.specs.declared.Name.TheVariants.{Intent}
 use Rattle.acct_outside.specs.declared.FolderFault.TheVariants.{Failed}
 use Rattle.acct_outside.specs.Calls.{removes}
 use Rattle.suite_rules.specs.Outcomes.{LeadsTo, after_commit}
-use Rattle.suite_rules.proofs.StepLemmas.{Called, called-of}
+use Rattle.suite_rules.proofs.StepLemmas.{called-of}
 use Rattle.lock_steps.specs.States.{Kept}
 use Rattle.lock_steps.proofs.OutcomesLemmas.{counts}
 use Rattle.recovery.proofs.CarryLemmas.{may-remove}

@@ -2,7 +2,7 @@ use Rattle.std.proofs.Common.{◌≡◌, inl, inr, refl, sym, ap, subst, ◌∙�
 use Rattle.std.proofs.lemmas.Bool.{cases_Bool}
 use Rattle.acct_outside.specs.declared.FolderFault.TheVariants.{Failed}
 use Rattle.suite_rules.specs.Outcomes.{LeadsTo, after_commit, installs, stages}
-use Rattle.suite_rules.proofs.StepLemmas.{Called, called-of}
+use Rattle.suite_rules.proofs.StepLemmas.{called-of}
 use Rattle.lock_steps.proofs.OutcomesLemmas.{counts}
 use Rattle.recovery.proofs.CarryLemmas.{may-move, may-stage}
 use Rattle.recovery.proofs.LeadsLemmas.{takes-step}
