@@ -1,25 +1,25 @@
 // What the lines of a batch have written so far.
-ghost use Rattle.std.specs.Prelude.{◌≡◌, ◌≤◌, ◌++◌, [], List, is_some, true, IfOk, OnOk};
-ghost use Rattle.acct_text.specs.ChangedTables.{changed_bytes, changed_tables, with_new_table};
-ghost use Rattle.acct_text.specs.Files.{table_of};
+ghost use Rattle.std.specs.Prelude.{◌≡◌, ◌≤◌, List, true, IfOk, OnOk};
 ghost use Rattle.acct_text.specs.Limits.{last_day};
-ghost use Rattle.acct_text.specs.declared.Tab.{Tab as Table};
 ghost use Rattle.account_model.specs.Batch.{is_done, line_outcome, nothing_on};
 ghost use Rattle.account_model.specs.Settings.{Setting};
 ghost use Rattle.account_model.specs.Words.{is_for_lines};
 ghost use Rattle.login_defs.specs.Held.{HasSettings, IsHeld};
 ghost use Rattle.option_words.specs.Parsed.{request_in};
-ghost use Rattle.tool_answers.specs.Decisions.{decision_by};
-ghost use Rattle.batch_commands.specs.Writing.{IsWrittenBehind, StandWhere, with_output};
+ghost use Rattle.tool_answers.specs.Decisions.{written_decision};
+ghost use Rattle.suite_tools.specs.Carrying.{StandWhere};
+ghost use Rattle.suite_tools.specs.Writing.{IsWrittenBehind, with_output};
 
+use crate::carry::carry_out;
+use crate::change::decide_change;
 use account_model::{Refusal, Tool};
-use acct_text::{Bytes, Files, NewTables, Tab};
+use acct_text::{Bytes, Files};
 use carried_tables::CarriedTables;
 use login_defs::Defs;
 use option_words::Parsed;
 use std::alloc::{AllocError, Global};
 use std::marker::Model;
-use tool_answers::{Decision, Output, ToolFault, decision_by};
+use tool_answers::{Decision, Output, ToolFault};
 
 // The status of a batch whose lines are all carried out, whatever theirs are.
 const CARRIED_OUT: u8 = 0;
@@ -77,7 +77,7 @@ impl Written {
             → IsWrittenBehind line.now.tool self.old self.new refusal
             (line_outcome ensuring (request_in line.now) day settings self.old.files)) }
     {
-        match suite_tools::carry_out(alloc, line, &mut self.tables, defs, day) {
+        match carry_out(alloc, line, b"", &mut self.tables, defs, day) {
             Ok(output) => {
                 self.print(&output)?;
                 Ok(None)
@@ -99,18 +99,18 @@ impl Written {
     }
 
     /// What is decided where no line follows: the tables that differ from the first files get their
-    /// bytes, which are taken out of those that were carried.
-    pub(crate) fn decision(&mut self, alloc: Global, first: &Files) -> Result<Decision, AllocError>
-        requires { StandWhere first.now self.old.files }
-        ensures { IfOk result (λ decision. decision ≡ decision_by
-            (changed_tables (table_of first.now) (table_of self.old.files))
-            (record { status = 0; out = self.old.output; err = self.old.error })) }
+    /// bytes.
+    pub(crate) fn decision(self, alloc: Global, first: &Files) -> Result<Decision, AllocError>
+        requires { StandWhere first.now self.files }
+        ensures { IfOk result (λ decision. decision ≡ written_decision first.now self) }
     {
-        let out = self.out.copy()?;
-        let err = self.err.copy()?;
-        let tables = differing(alloc, first, self.tables.take_files()?)?;
+        let Written {
+            mut tables,
+            out,
+            err,
+        } = self;
         let status = CARRIED_OUT;
-        Ok(decision_by(tables, Output { status, out, err }))
+        decide_change(alloc, first, &mut tables, Output { status, out, err })
     }
 }
 
@@ -126,38 +126,4 @@ fn is_done(tool: Tool, refusal: &Refusal) -> bool
             | (Tool::Groupdel, Refusal::NoGroup(_))
             | (Tool::Gpasswd, Refusal::NotMember(..))
     )
-}
-
-// The tables that differ from the first, in the fixed order.
-fn differing(alloc: Global, first: &Files, mut last: Files) -> Result<NewTables, AllocError>
-    requires { StandWhere first.now last }
-    ensures { IfOk result (λ tables.
-        tables ≡ changed_tables (table_of first.now) (table_of last)) }
-{
-    let mut tables = NewTables::none(alloc);
-    push_new(&mut tables, Tab::Passwd, &first.passwd, &mut last.passwd)?;
-    push_new(&mut tables, Tab::Shadow, &first.shadow, &mut last.shadow)?;
-    push_new(&mut tables, Tab::Group, &first.group, &mut last.group)?;
-    push_new(&mut tables, Tab::Gshadow, &first.gshadow, &mut last.gshadow)?;
-    push_new(&mut tables, Tab::Subuid, &first.subuid, &mut last.subuid)?;
-    push_new(&mut tables, Tab::Subgid, &first.subgid, &mut last.subgid)?;
-    Ok(tables)
-}
-
-// Adds the table where it differs from the first, with the bytes taken out of the last. None is made,
-// and none goes.
-fn push_new(
-    tables: &mut NewTables,
-    table: Tab,
-    first: &Option<Bytes>,
-    last: &mut Option<Bytes>,
-) -> Result<(), AllocError>
-    requires { is_some last.old ≡ is_some first.now }
-    ensures { OnOk result (tables.new ≡ tables.old
-        ++ with_new_table table (changed_bytes first.now last.old) []) }
-{
-    match (first, last.take()) {
-        (Some(first), Some(last)) => tables.push(table, first, last),
-        _ => Ok(()),
-    }
 }

@@ -1,8 +1,5 @@
 -- What one line of a batch adds to what those before it have written.
-use Rattle.std.specs.Prelude.{◌≡◌, ◌++◌, Option, Some, None, Result, Ok, Err, is_some}
-use Rattle.acct_text.specs.declared.Tab.{Tab}
-use Rattle.acct_text.specs.declared.files.Files.{Files}
-use Rattle.acct_text.specs.Files.{table_of}
+use Rattle.std.specs.Prelude.{◌≡◌, ◌++◌, Option, Some, None, Result, Ok, Err}
 use Rattle.account_model.specs.declared.tool.Tool.{Tool}
 use Rattle.account_model.specs.declared.refusal.Refusal.{Refusal}
 use Rattle.account_model.specs.Action.{Made}
@@ -21,11 +18,6 @@ with_output output written = record written {
 abbrev pub with_made : Tool → Made → Written → Written
 with_made tool made written =
     record (with_output (made_output tool made) written) { files = made.files }
-
--- each table stands in the new files where it stood in the first
-abbrev pub StandWhere : Files → Files → Type 0
-StandWhere first last =
-    (table : Tab) → is_some (table_of last table) ≡ is_some (table_of first table)
 
 -- by the outcome of its tool a line refuses, or is written behind the others
 abbrev pub IsWrittenBehind : Tool → Written → Written → Option Refusal → Result Made Refusal → Type 0

@@ -8,9 +8,9 @@ use Rattle.account_model.specs.Batch.{batch}
 use Rattle.account_model.proofs.DeedLaws.{batch-stands}
 use Rattle.option_words.specs.Batch.{requests_of}
 use Rattle.tool_answers.specs.Decisions.{decision_of_lines}
-use Rattle.batch_commands.specs.Writing.{IsWrittenBehind}
-use Rattle.batch_commands.proofs.LinesLemmas.{all-done, line-refuses, line-written, outcome_on, with_left}
-use Rattle.batch_commands.proofs.lines.decide_lines.Goals as goal
+use Rattle.suite_tools.specs.Writing.{IsWrittenBehind}
+use Rattle.suite_tools.proofs.LinesLemmas.{all-done, line-refuses, line-written, outcome_on, with_left}
+use Rattle.suite_tools.proofs.lines.decide_lines.Goals as goal
 
 pub carry_out-requires-clause-for_lines : goal.carry_out-requires-clause-for_lines
 carry_out-requires-clause-for_lines c =

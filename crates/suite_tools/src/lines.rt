@@ -2,7 +2,7 @@
 ghost use Rattle.std.specs.Prelude.{◌≤◌, length, IfOk};
 ghost use Rattle.acct_text.specs.Limits.{last_day, table_limit};
 ghost use Rattle.login_defs.specs.Held.{IsHeld};
-ghost use Rattle.batch_commands.specs.Deciding.{LinesDecideUnder};
+ghost use Rattle.suite_tools.specs.Deciding.{LinesDecideUnder};
 
 use crate::written::Written;
 use acct_text::{Bytes, Files};
@@ -16,7 +16,7 @@ use tool_answers::{Decision, refuse_line};
 /// the batch with its number, and else the tables become what the last line leaves. A line that asks
 /// for nothing is left out; that fault is for the caller to find before. Where the batch is to ensure
 /// what its lines say, a line that is done already is passed by.
-pub fn decide_lines(
+pub(crate) fn decide_lines(
     alloc: Global,
     ensuring: bool,
     input: &Bytes,

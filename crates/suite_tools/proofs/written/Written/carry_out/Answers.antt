@@ -4,9 +4,9 @@ use Rattle.account_model.specs.Action.{outcome_of}
 use Rattle.account_model.specs.Batch.{Written, line_outcome}
 use Rattle.account_model.specs.Change.{action_of}
 use Rattle.option_words.specs.Parsed.{request_in}
-use Rattle.batch_commands.specs.Writing.{IsWrittenBehind}
-use Rattle.batch_commands.proofs.LinesLemmas.{ensured-behind}
-use Rattle.batch_commands.proofs.written.Written.carry_out.Goals as goal
+use Rattle.suite_tools.specs.Writing.{IsWrittenBehind}
+use Rattle.suite_tools.proofs.LinesLemmas.{ensured-behind}
+use Rattle.suite_tools.proofs.written.Written.carry_out.Goals as goal
 
 pub returns-in_ok-print-in-Ok : goal.returns-in_ok-print-in-Ok
 returns-in_ok-print-in-Ok c = λ settings holds.

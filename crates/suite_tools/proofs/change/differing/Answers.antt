@@ -5,7 +5,7 @@ use Rattle.acct_text.specs.declared.new_tables.NewTable.{NewTable}
 use Rattle.acct_text.specs.Files.{table_of}
 use Rattle.acct_text.specs.Tables.{all_tables}
 use Rattle.tool_answers.proofs.ListedTables.{AreListedBefore, all-listed, listed-on, none-listed}
-use Rattle.batch_commands.proofs.written.differing.Goals as goal
+use Rattle.suite_tools.proofs.change.differing.Goals as goal
 
 pub push_new-requires : goal.push_new-requires
 push_new-requires c = c.requires Passwd

@@ -14,7 +14,7 @@ use Rattle.account_model.specs.Batch.{LineRefusal, Written, batch, before_others
 use Rattle.account_model.specs.Messages.{messages}
 use Rattle.tool_answers.specs.declared.decision.Output.{Output}
 use Rattle.table_edits.specs.Deciding.{IsCarriedOut, written_with}
-use Rattle.batch_commands.specs.Writing.{IsWrittenBehind, with_made, with_output}
+use Rattle.suite_tools.specs.Writing.{IsWrittenBehind, with_made, with_output}
 
 -- ---- One line
 

@@ -4,8 +4,8 @@ use Rattle.account_model.specs.Settings.{Setting}
 use Rattle.account_model.specs.Batch.{batch}
 use Rattle.login_defs.specs.Held.{HasSettings}
 use Rattle.option_words.specs.Batch.{requests_of}
-use Rattle.batch_commands.proofs.LinesLemmas.{with_left}
-use Rattle.batch_commands.proofs.lines.decide_lines.Given as goal
+use Rattle.suite_tools.proofs.LinesLemmas.{with_left}
+use Rattle.suite_tools.proofs.lines.decide_lines.Given as goal
 
 -- what is written, with what the lines that are left make of it, is the batch
 abbrev pub invariant-lines : goal.invariant-lines
