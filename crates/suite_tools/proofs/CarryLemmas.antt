@@ -31,9 +31,15 @@ made-stands action files made is table =
     subst (λ (one : Made). is_some (table_of one.files table) ≡ is_some (table_of files table))
     (outcome-made action files made is).makes (files-stand action.script files table)
 
-module _ (defs : Defs) (day : ℕ) (request : Request) (input : List ℕ) (first last : Files)
-    (output : Output) (carried : CarriesUnder defs day request input first last (Ok output)) where
-  -- what is asked for is done so on the files
+module _ (defs : Defs) (day : ℕ) (request : Request) (input : List ℕ) (first old last : Files)
+    (output : Output) (are : old ≡ first)
+    (carries : CarriesUnder defs day request input old last (Ok output)) where
+  -- the command is carried out on the files
+  carried : CarriesUnder defs day request input first last (Ok output)
+  carried = subst (λ (files : Files). CarriesUnder defs day request input files last (Ok output)) are
+      carries
+
+  -- what is asked for is done so on them
   abbrev action : List Setting → Action
   action settings = action_of request input day first settings
 

@@ -32,7 +32,7 @@ pub(crate) fn decide_lines(
     let mut written = Written::nothing(alloc, files)?;
     let mut lines = BatchLines::of(alloc, input.as_slice());
     'lines: while let Some(line) = lines.next_request()? {
-        if let Some(refusal) = written.carry_out(alloc, ensuring, &line.parsed, defs, day)? {
+        if let Some(refusal) = written.carry_out(alloc, ensuring, &line, defs, day)? {
             return refuse_line(alloc, line.number, line.parsed.tool, refusal);
         }
     }

@@ -5,7 +5,6 @@ ghost use Rattle.account_model.specs.Batch.{is_done, line_outcome, nothing_on};
 ghost use Rattle.account_model.specs.Settings.{Setting};
 ghost use Rattle.account_model.specs.Words.{is_for_lines};
 ghost use Rattle.login_defs.specs.Held.{HasSettings, IsHeld};
-ghost use Rattle.option_words.specs.Parsed.{request_in};
 ghost use Rattle.tool_answers.specs.Decisions.{written_decision};
 ghost use Rattle.suite_tools.specs.Carrying.{StandWhere};
 ghost use Rattle.suite_tools.specs.Writing.{IsWrittenBehind, with_output};
@@ -16,7 +15,7 @@ use account_model::{Refusal, Tool};
 use acct_text::{Bytes, Files};
 use carried_tables::CarriedTables;
 use login_defs::Defs;
-use option_words::Parsed;
+use option_words::LineRequest;
 use std::alloc::{AllocError, Global};
 use std::marker::Model;
 use tool_answers::{Decision, Output, ToolFault};
@@ -66,25 +65,25 @@ impl Written {
         &mut self,
         alloc: Global,
         ensuring: bool,
-        line: &Parsed,
+        line: &LineRequest,
         defs: &Defs,
         day: u32,
     ) -> Result<Option<Refusal>, AllocError>
         requires held { IsHeld defs.now }
         requires in_time { day ≤ last_day }
-        requires for_lines { is_for_lines line.now.tool ≡ true }
+        requires for_lines { is_for_lines line.now.request.tool ≡ true }
         ensures { IfOk result (λ refusal. (settings : List Setting) → HasSettings defs.now settings
-            → IsWrittenBehind line.now.tool self.old self.new refusal
-            (line_outcome ensuring (request_in line.now) day settings self.old.files)) }
+            → IsWrittenBehind line.now.request.tool self.old self.new refusal
+            (line_outcome ensuring line.now.request day settings self.old.files)) }
     {
-        match carry_out(alloc, line, b"", &mut self.tables, defs, day) {
+        match carry_out(alloc, &line.parsed, b"", &mut self.tables, defs, day) {
             Ok(output) => {
                 self.print(&output)?;
                 Ok(None)
             }
-            Err(ToolFault::Refused(refusal)) if ensuring && is_done(line.tool, &refusal) => Ok(
-                None,
-            ),
+            Err(ToolFault::Refused(refusal)) if ensuring && is_done(line.parsed.tool, &refusal) => {
+                Ok(None)
+            }
             Err(ToolFault::Refused(refusal)) => Ok(Some(refusal)),
             Err(ToolFault::Memory) => Err(AllocError),
         }
