@@ -43,17 +43,14 @@ pub fn decide(
     let asked = Asked::of(parsed);
     match parsed.tool {
         Tool::Batch => decide_lines(alloc, asked.has(b'e'), input, files, defs, day),
-        Tool::Pwck => pwck(alloc, &asked, files, day),
-        Tool::Grpck => grpck(alloc, &asked, files),
-        Tool::Getsubids => getsubids(alloc, &asked, files),
-        _ => decide_alone(alloc, parsed, input.as_slice(), files, defs, day),
+        _ => decide_tool(alloc, &asked, input.as_slice(), files, defs, day),
     }
 }
 
-// What a command decides that is carried out by itself.
-fn decide_alone(
+// What a command decides that is no batch.
+fn decide_tool(
     alloc: Global,
-    parsed: &Parsed,
+    asked: &Asked,
     input: &[u8],
     files: &Files,
     defs: &Defs,
@@ -62,13 +59,35 @@ fn decide_alone(
     requires small { length input.now ≤ table_limit }
     requires held { IsHeld defs.now }
     requires in_time { day ≤ last_day }
-    requires scripted { looks_through parsed.now.tool ≡ false }
-    ensures { IfOk result (ToolDecides defs.now day (request_in parsed.now) input.now files.now) }
+    ensures { IfOk result (ToolDecides defs.now day asked.now input.now files.now) }
+{
+    match asked.tool() {
+        Tool::Pwck => pwck(alloc, asked, files, day),
+        Tool::Grpck => grpck(alloc, asked, files),
+        Tool::Getsubids => getsubids(alloc, asked, files),
+        _ => decide_alone(alloc, asked, input, files, defs, day),
+    }
+}
+
+// What a command decides that is carried out by itself.
+fn decide_alone(
+    alloc: Global,
+    asked: &Asked,
+    input: &[u8],
+    files: &Files,
+    defs: &Defs,
+    day: u32,
+) -> Result<Decision, AllocError>
+    requires small { length input.now ≤ table_limit }
+    requires held { IsHeld defs.now }
+    requires in_time { day ≤ last_day }
+    requires scripted { looks_through asked.now.tool ≡ false }
+    ensures { IfOk result (ToolDecides defs.now day asked.now input.now files.now) }
 {
     let mut tables = CarriedTables::of(alloc, files)?;
-    match carry_out(alloc, parsed, input, &mut tables, defs, day) {
+    match carry_out(alloc, asked, input, &mut tables, defs, day) {
         Ok(output) => decide_change(alloc, files, &mut tables, output),
-        Err(ToolFault::Refused(refusal)) => refuse(alloc, parsed.tool, refusal),
+        Err(ToolFault::Refused(refusal)) => refuse(alloc, asked.tool(), refusal),
         Err(ToolFault::Memory) => Err(AllocError),
     }
 }

@@ -14,6 +14,7 @@ use crate::change::decide_change;
 use account_model::{Refusal, Tool};
 use acct_text::{Bytes, Files};
 use carried_tables::CarriedTables;
+use command_values::Asked;
 use login_defs::Defs;
 use option_words::LineRequest;
 use std::alloc::{AllocError, Global};
@@ -76,7 +77,14 @@ impl Written {
             → IsWrittenBehind line.now.request.tool self.old self.new refusal
             (line_outcome ensuring line.now.request day settings self.old.files)) }
     {
-        match carry_out(alloc, &line.parsed, b"", &mut self.tables, defs, day) {
+        match carry_out(
+            alloc,
+            &Asked::of(&line.parsed),
+            b"",
+            &mut self.tables,
+            defs,
+            day,
+        ) {
             Ok(output) => {
                 self.print(&output)?;
                 Ok(None)
