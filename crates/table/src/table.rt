@@ -8,7 +8,7 @@ ghost use Rattle.table.specs.TableEdits.{AreWritten, multiple_by, table_by};
 
 use crate::edited::edited;
 use crate::file_records::{edited_file, named_in};
-use crate::files::{SeenFile, copy_of};
+use crate::files::SeenFile;
 use crate::keyed_cells::KeyedCells;
 use crate::search::{RecordTest, first_passing, text_of};
 use acct_tables::{MANY, find_record, has_record, has_several_records};
@@ -54,13 +54,6 @@ impl<R: KeyedRecord> Model for Table<R> {
 }
 
 impl<R: KeyedRecord + Drop> Table<R> {
-    /// The table of no file.
-    pub fn absent() -> Self
-        ensures { result ≡ None }
-    {
-        Table::owning(None)
-    }
-
     /// The table of this file, which is absent where there is none.
     pub fn owning(file: Option<Bytes>) -> Self
         ensures { result ≡ file }
@@ -68,13 +61,6 @@ impl<R: KeyedRecord + Drop> Table<R> {
         Table {
             standing: Standing::File(file),
         }
-    }
-
-    /// The table of the file, whose bytes are copied and not looked at.
-    pub fn of(alloc: Global, file: &Option<Bytes>) -> Result<Self, AllocError>
-        ensures { IfOk result (λ table. table ≡ file.now) }
-    {
-        Ok(Table::owning(copy_of(alloc, file)?))
     }
 
     /// Makes the index, in one pass, unless there is one. At `AllocError` the table is gone.
