@@ -11,9 +11,9 @@ use crate::Decision;
 use crate::carry::carry_out;
 use crate::change::decide_change;
 use crate::lines::decide_lines;
+use crate::opening::tables_for;
 use account_model::Tool;
 use acct_text::{Bytes, Files};
-use carried_tables::CarriedTables;
 use check_reports::getsubids::getsubids;
 use check_reports::grpck::grpck;
 use check_reports::pwck::pwck;
@@ -84,7 +84,7 @@ fn decide_alone(
     requires scripted { looks_through asked.now.tool ≡ false }
     ensures { IfOk result (ToolDecides defs.now day asked.now input.now files.now) }
 {
-    let mut tables = CarriedTables::of(alloc, files)?;
+    let mut tables = tables_for(alloc, asked, input, files)?;
     match carry_out(alloc, asked, input, &mut tables, defs, day) {
         Ok(output) => decide_change(alloc, files, &mut tables, output),
         Err(ToolFault::Refused(refusal)) => refuse(alloc, asked.tool(), refusal),

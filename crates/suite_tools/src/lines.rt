@@ -4,6 +4,7 @@ ghost use Rattle.acct_text.specs.Limits.{last_day, table_limit};
 ghost use Rattle.login_defs.specs.Held.{IsHeld};
 ghost use Rattle.suite_tools.specs.Deciding.{LinesDecideUnder};
 
+use crate::opening::tables_for_lines;
 use crate::written::Written;
 use acct_text::{Bytes, Files};
 use login_defs::Defs;
@@ -29,7 +30,7 @@ pub(crate) fn decide_lines(
     requires in_time { day ≤ last_day }
     ensures { IfOk result (LinesDecideUnder ensuring defs.now day input.now files.now) }
 {
-    let mut written = Written::nothing(alloc, files)?;
+    let mut written = Written::nothing(alloc, tables_for_lines(alloc, input.as_slice(), files)?);
     let mut lines = BatchLines::of(alloc, input.as_slice());
     'lines: while let Some(line) = lines.next_request()? {
         if let Some(refusal) = written.carry_out(alloc, ensuring, &line, defs, day)? {

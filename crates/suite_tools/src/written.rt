@@ -46,15 +46,15 @@ impl Model for Written {
 }
 
 impl Written {
-    /// What no lines leave of these files.
-    pub(crate) fn nothing(alloc: Global, files: &Files) -> Result<Self, AllocError>
-        ensures { IfOk result (λ written. written ≡ nothing_on files.now) }
+    /// What no lines leave of these tables.
+    pub(crate) fn nothing(alloc: Global, tables: CarriedTables) -> Self
+        ensures { result ≡ nothing_on tables }
     {
-        Ok(Written {
-            tables: CarriedTables::of(alloc, files)?,
+        Written {
+            tables,
             out: Bytes::new(alloc),
             err: Bytes::new(alloc),
-        })
+        }
     }
 
     /// Carries out what a line asks for behind those that have written this, or tells why its tool
