@@ -9,50 +9,42 @@ use acct_lines::is_digits;
 use acct_text::{Bytes, Names};
 use command_values::{Asked, list_value, read_id};
 use std::alloc::{AllocError, Global};
-use table_lookups::{GroupIndex, Tables};
+use table_lookups::Tables;
 
 /// Whether a word names a group: by its GID where the word is all digits, and else by its name.
-pub fn names_group(alloc: Global, groups: &GroupIndex<'_>, word: &[u8]) -> Result<bool, AllocError>
+pub fn names_group(alloc: Global, tables: &Tables, word: &[u8]) -> Result<bool, AllocError>
     ensures { IfOk result (λ names.
-        names ≡ is_some (named_by_word word.now (group_records groups.now))) }
+        names ≡ is_some (named_by_word word.now (group_records tables.now))) }
 {
     if !is_digits(word) {
-        return Ok(groups.has_group(word));
+        return Ok(tables.has_group(word));
     }
     match read_id(word) {
-        Some(gid) => groups.has_gid(alloc, gid),
+        Some(gid) => tables.is_gid_used(alloc, gid),
         None => Ok(false),
     }
 }
 
 /// The name of the first group that a word names; none where it names none.
-pub fn group_name(
-    alloc: Global,
-    groups: &GroupIndex<'_>,
-    word: &[u8],
-) -> Result<Option<Bytes>, AllocError>
+pub fn group_name(alloc: Global, tables: &Tables, word: &[u8]) -> Result<Option<Bytes>, AllocError>
     ensures { IfOk result (λ name. name ≡ option_map (λ group. group.name)
-        (named_by_word word.now (group_records groups.now))) }
+        (named_by_word word.now (group_records tables.now))) }
 {
     if !is_digits(word) {
-        return given_name(alloc, groups, word);
+        return given_name(alloc, tables, word);
     }
     match read_id(word) {
-        Some(gid) => groups.name_of_gid(alloc, gid),
+        Some(gid) => Ok(tables.group_of_gid(alloc, gid)?.map(|group| group.name)),
         None => Ok(None),
     }
 }
 
 // The name, where a group has it.
-fn given_name(
-    alloc: Global,
-    groups: &GroupIndex<'_>,
-    name: &[u8],
-) -> Result<Option<Bytes>, AllocError>
+fn given_name(alloc: Global, tables: &Tables, name: &[u8]) -> Result<Option<Bytes>, AllocError>
     ensures { IfOk result (λ given.
-        given ≡ option_map (λ group. group.name) (group_of_name name.now groups.now)) }
+        given ≡ option_map (λ group. group.name) (group_of_name name.now tables.now)) }
 {
-    if groups.has_group(name) {
+    if tables.has_group(name) {
         Ok(Some(Bytes::of(alloc, name)?))
     } else {
         Ok(None)
@@ -96,22 +88,4 @@ pub fn group_words(alloc: Global, asked: &Asked) -> Result<Names, AllocError>
     ensures { IfOk result (λ words. words ≡ words_of_groups asked.now) }
 {
     list_value(alloc, asked.value_or(b'G', b""))
-}
-
-/// The groups of the tables, which are to be asked for by these words: with one pass where the words
-/// are many, and another where GIDs are among them.
-pub fn groups_asked<'a>(
-    alloc: Global,
-    tables: &Tables<'a>,
-    words: &Names,
-) -> Result<GroupIndex<'a>, AllocError>
-    ensures { IfOk result (λ groups. groups ≡ tables.now) }
-{
-    let mut gids = Vec::new(alloc);
-    for word in words.as_slice() {
-        if let Some(gid) = read_id(word.as_slice()) {
-            gids.push(gid)?;
-        }
-    }
-    GroupIndex::of(alloc, tables, words, gids)
 }

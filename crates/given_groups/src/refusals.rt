@@ -4,19 +4,19 @@ ghost use Rattle.account_model.specs.GivenGroups.{is_unknown_group, unknown_grou
 ghost use Rattle.account_model.specs.Refusals.{refuse_if};
 ghost use Rattle.table_lookups.specs.Stopping.{StopsBy};
 
-use crate::named::{group_words, groups_asked, names_group};
+use crate::named::{group_words, names_group};
 use account_model::Refusal;
 use acct_text::Bytes;
 use command_values::{Asked, ToolFault};
 use std::alloc::Global;
-use table_lookups::{GroupIndex, Tables};
+use table_lookups::Tables;
 
 /// Refuses a word of `-g` that names no group: `NoGroup`.
 pub fn check_given_group(alloc: Global, asked: &Asked, tables: &Tables) -> Result<(), ToolFault>
     ensures { StopsBy (unknown_group asked.now tables.now) result }
 {
     match asked.value(b'g') {
-        Some(word) => check_word(alloc, &GroupIndex::plain(tables), word),
+        Some(word) => check_word(alloc, tables, word),
         None => Ok(()),
     }
 }
@@ -26,27 +26,26 @@ pub fn check_given_groups(alloc: Global, asked: &Asked, tables: &Tables) -> Resu
     ensures { StopsBy (unknown_groups asked.now tables.now) result }
 {
     let words = group_words(alloc, asked)?;
-    let groups = groups_asked(alloc, tables, &words)?;
-    check_words(alloc, &groups, words.as_slice())
+    check_words(alloc, tables, words.as_slice())
 }
 
 // Refuses the first of the words that names no group: `NoGroup`.
-fn check_words(alloc: Global, groups: &GroupIndex<'_>, words: &[Bytes]) -> Result<(), ToolFault>
+fn check_words(alloc: Global, tables: &Tables, words: &[Bytes]) -> Result<(), ToolFault>
     ensures { StopsBy
-        (option_map Refusal.NoGroup (find (is_unknown_group groups.now) words.now)) result }
+        (option_map Refusal.NoGroup (find (is_unknown_group tables.now) words.now)) result }
 {
     for word in words {
-        check_word(alloc, groups, word.as_slice())?;
+        check_word(alloc, tables, word.as_slice())?;
     }
     Ok(())
 }
 
 // Refuses a word that names no group: `NoGroup`.
-fn check_word(alloc: Global, groups: &GroupIndex<'_>, word: &[u8]) -> Result<(), ToolFault>
+fn check_word(alloc: Global, tables: &Tables, word: &[u8]) -> Result<(), ToolFault>
     ensures { StopsBy
-        (refuse_if (is_unknown_group groups.now word.now) (Refusal.NoGroup word.now)) result }
+        (refuse_if (is_unknown_group tables.now word.now) (Refusal.NoGroup word.now)) result }
 {
-    if names_group(alloc, groups, word)? {
+    if names_group(alloc, tables, word)? {
         return Ok(());
     }
     Err(ToolFault::Refused(Refusal::NoGroup(Bytes::of(alloc, word)?)))

@@ -1,4 +1,2 @@
 pub mod ActingLemmas
-pub mod ListedFile
 pub mod IdleLemmas
-pub mod CheckedTables

@@ -1,4 +1,4 @@
-// What a command does with carried tables, by the script of its tool, once none of the tool's refusals
+// What a command does with the tables, by the script of its tool, once none of the tool's refusals
 // is there.
 ghost use Rattle.std.specs.Prelude.{◌≡◌, OnOk};
 ghost use Rattle.account_model.specs.Records.{subid_format};
@@ -9,8 +9,8 @@ ghost use Rattle.line_edits.specs.SubidChanges.{subid_becomes};
 ghost use Rattle.table_edits.specs.Deciding.{CarriesAs};
 ghost use Rattle.table_edits.specs.SeenScript.{seen_script};
 
-use crate::decide::output_of;
-use crate::multiple::multiple_carried;
+use crate::idle_edits::without_idle;
+use crate::multiple::first_multiple;
 use crate::{Report, Script, SubidRecord};
 use account_model::Tool;
 use carried_tables::{CarriedTables, RangeTable};
@@ -34,23 +34,23 @@ pub fn carry_out(
     requires { IsWrittenScript (seen_script script.now) }
     ensures { CarriesAs tool script.now report tables.old tables.new result }
 {
-    if let Some(refusal) = multiple_carried(alloc, tables, script)? {
+    if let Some(refusal) = first_multiple(alloc, tables, script)? {
         return Err(ToolFault::Refused(refusal));
     }
-    let output = output_of(alloc, tool, report)?;
+    let output = report.output(alloc, tool)?;
     edit_tables(alloc, tables, script)?;
     Ok(output)
 }
 
-// Makes the edits of each table.
+// Makes the edits of each table, but for those that leave each record of it.
 fn edit_tables(alloc: Global, tables: &mut CarriedTables, script: &Script) -> Result<(), AllocError>
     requires { IsWrittenScript (seen_script script.now) }
     ensures { OnOk result (tables.new ≡ files_after (seen_script script.now) tables.old) }
 {
     tables.edit(
         alloc,
-        &script.passwd,
-        &script.shadow,
+        without_idle(&script.passwd),
+        without_idle(&script.shadow),
         &script.group,
         &script.gshadow,
     )?;

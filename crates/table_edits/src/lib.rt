@@ -4,15 +4,12 @@
 //! A tool builds a `Script`; `group_edits` and `user_edits` have edits that several tools make,
 //! `user_hashes` and `group_hashes` those that put a hash where it stands, with the lines of shadow and
 //! gshadow that are made on demand, and `new_groups` a group with its hash.
-//! `decide_by` decides by it: it refuses where an edit touches one of several records of a name, and
-//! else makes the new bytes of each table (`checked_tables`) whose edits aren't seen to leave all
-//! records (`idle_edits`). `carry_out` does the same (`multiple`) in tables that are carried from
-//! command to command.
+//! `carry_out` carries it out on the tables: it refuses where an edit touches one of several records of
+//! a name (`multiple`), and else edits them, but for a table whose edits are seen to leave all records
+//! (`idle_edits`). What a tool prints beside is its `Report`.
 #![tactic(auto)]
 
 mod carry;
-mod checked_tables;
-mod decide;
 mod group_edits;
 mod group_hashes;
 mod idle_edits;
@@ -28,9 +25,8 @@ pub use acct_lines::{
     GroupRecord, GshadowRecord, PasswdRecord, ShadowRecord, SubidRecord, TableRecord,
 };
 pub use carry::carry_out;
-pub use decide::decide_by;
 pub use group_hashes::{demand_gshadow, set_group_hash};
 pub use new_groups::add_group;
 pub use report::Report;
 pub use script::Script;
-pub use user_hashes::{change_user_hash, demand_indexed, demand_shadow, hash_alone};
+pub use user_hashes::{change_user_hash, demand_shadow, hash_alone};

@@ -11,7 +11,7 @@ use acct_lines::{PasswdRecord, ShadowRecord};
 use acct_text::Bytes;
 use line_edits::{Edit, HashChange, PasswdAct, ShadowAct};
 use std::alloc::{AllocError, Global};
-use table_lookups::{Tables, UserIndex};
+use table_lookups::Tables;
 
 /// Makes the shadow line on demand: where shadow lacks the user, a record with the hash of
 /// passwd goes there, and `x` into the password field of passwd.
@@ -28,25 +28,6 @@ pub fn demand_shadow(
         return Ok(());
     }
     match tables.user_named(alloc, name)? {
-        Some(user) => make_shadow(alloc, script, &user),
-        None => Ok(()),
-    }
-}
-
-/// Makes the shadow line on demand as `demand_shadow` does, by what the index finds.
-pub fn demand_indexed(
-    alloc: Global,
-    script: &mut Script,
-    users: &UserIndex<'_>,
-    name: &[u8],
-) -> Result<(), AllocError>
-    ensures { OnOk result
-        (HasAlso (shadow_on_demand name.now users.now) script.old script.new) }
-{
-    if !users.tables().has_shadow_file() || users.shadow_named(alloc, name)?.is_some() {
-        return Ok(());
-    }
-    match users.user_named(alloc, name)? {
         Some(user) => make_shadow(alloc, script, &user),
         None => Ok(()),
     }

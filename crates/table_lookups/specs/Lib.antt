@@ -1,3 +1,1 @@
 pub mod Stopping
-pub mod FirstLines
-pub mod Sources

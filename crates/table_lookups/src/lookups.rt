@@ -6,13 +6,10 @@ ghost use Rattle.account_model.specs.Users.{find_user, find_shadow, group_named 
 ghost use Rattle.table_lookups.specs.Stopping.{StopsBy};
 
 use crate::Tables;
-use crate::tables::Source;
 use account_model::Refusal;
 use acct_lines::{GroupRecord, GshadowRecord, PasswdRecord, ShadowRecord};
-use acct_tables::{find_record, has_record};
 use acct_text::Bytes;
 use std::alloc::{AllocError, Global};
-use table::text_of;
 use tool_answers::ToolFault;
 
 impl Tables<'_> {
@@ -20,10 +17,7 @@ impl Tables<'_> {
     pub fn user_named(&self, alloc: Global, name: &[u8]) -> Result<Option<PasswdRecord>, AllocError>
         ensures { IfOk result (λ found. found ≡ find_user name.now self.now) }
     {
-        match self.source() {
-            Source::Files(files) => find_record(alloc, text_of(&files.passwd), name),
-            Source::Carried(tables) => tables.passwd().table().find(alloc, name),
-        }
+        self.carried.passwd().table().find(alloc, name)
     }
 
     /// The first record of shadow that has the name.
@@ -34,20 +28,14 @@ impl Tables<'_> {
     ) -> Result<Option<ShadowRecord>, AllocError>
         ensures { IfOk result (λ found. found ≡ find_shadow name.now self.now) }
     {
-        match self.source() {
-            Source::Files(files) => find_record(alloc, text_of(&files.shadow), name),
-            Source::Carried(tables) => tables.shadow().find(alloc, name),
-        }
+        self.carried.shadow().find(alloc, name)
     }
 
     /// The first record of group that has the name.
     pub fn group_named(&self, alloc: Global, name: &[u8]) -> Result<Option<GroupRecord>, AllocError>
         ensures { IfOk result (λ found. found ≡ group_of_name name.now self.now) }
     {
-        match self.source() {
-            Source::Files(files) => find_record(alloc, text_of(&files.group), name),
-            Source::Carried(tables) => tables.group().table().find(alloc, name),
-        }
+        self.carried.group().table().find(alloc, name)
     }
 
     /// The first record of gshadow that has the name.
@@ -58,50 +46,35 @@ impl Tables<'_> {
     ) -> Result<Option<GshadowRecord>, AllocError>
         ensures { IfOk result (λ found. found ≡ gshadow_of_name name.now self.now) }
     {
-        match self.source() {
-            Source::Files(files) => find_record(alloc, text_of(&files.gshadow), name),
-            Source::Carried(tables) => tables.gshadow().find(alloc, name),
-        }
+        self.carried.gshadow().find(alloc, name)
     }
 
     /// Whether a record of passwd has the name. It takes no memory.
     pub fn has_user(&self, name: &[u8]) -> bool
         ensures { result ≡ has_user name.now self.now }
     {
-        match self.source() {
-            Source::Files(files) => has_record::<PasswdRecord>(text_of(&files.passwd), name),
-            Source::Carried(tables) => tables.passwd().table().has(name),
-        }
+        self.carried.passwd().table().has(name)
     }
 
     /// Whether a record of shadow has the name. It takes no memory.
     pub fn has_shadow(&self, name: &[u8]) -> bool
         ensures { result ≡ has_shadow name.now self.now }
     {
-        match self.source() {
-            Source::Files(files) => has_record::<ShadowRecord>(text_of(&files.shadow), name),
-            Source::Carried(tables) => tables.shadow().has(name),
-        }
+        self.carried.shadow().has(name)
     }
 
     /// Whether a record of group has the name. It takes no memory.
     pub fn has_group(&self, name: &[u8]) -> bool
         ensures { result ≡ has_group name.now self.now }
     {
-        match self.source() {
-            Source::Files(files) => has_record::<GroupRecord>(text_of(&files.group), name),
-            Source::Carried(tables) => tables.group().table().has(name),
-        }
+        self.carried.group().table().has(name)
     }
 
     /// Whether a record of gshadow has the name. It takes no memory.
     pub fn has_gshadow(&self, name: &[u8]) -> bool
         ensures { result ≡ has_gshadow name.now self.now }
     {
-        match self.source() {
-            Source::Files(files) => has_record::<GshadowRecord>(text_of(&files.gshadow), name),
-            Source::Carried(tables) => tables.gshadow().has(name),
-        }
+        self.carried.gshadow().has(name)
     }
 
     /// Refuses a name that no group has: `NoGroup`.

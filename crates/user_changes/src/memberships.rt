@@ -9,7 +9,7 @@ ghost use Rattle.user_changes.specs.Memberships.{group_edit, group_names, gshado
 use crate::changes::new_name;
 use acct_text::{Bytes, Names};
 use command_values::Asked;
-use given_groups::{group_name, group_words, groups_asked};
+use given_groups::{group_name, group_words};
 use line_edits::{
     Edit, GroupAct, GroupChange, GshadowAct, GshadowChange, Membership, NameSet, UserGroups,
 };
@@ -103,10 +103,9 @@ pub(crate) fn group_names(
     ensures { IfOk result (λ names. names ≡ group_names asked.now tables.now) }
 {
     let words = group_words(alloc, asked)?;
-    let groups = groups_asked(alloc, tables, &words)?;
     let mut names = Names::new(alloc);
     for word in words.as_slice() {
-        if let Some(name) = group_name(alloc, &groups, word.as_slice())? {
+        if let Some(name) = group_name(alloc, tables, word.as_slice())? {
             names.push(name.as_slice())?;
         }
     }

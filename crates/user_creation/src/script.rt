@@ -15,11 +15,11 @@ use crate::records::new_user;
 use account_model::{Allotment, Plan, ShadowRecord, SubidRecord};
 use acct_text::Bytes;
 use command_values::Asked;
-use given_groups::{group_name, group_words, groups_asked};
+use given_groups::{group_name, group_words};
 use line_edits::{Edit, SubidChange};
 use std::alloc::{AllocError, Global};
 use table_edits::{Script, add_group};
-use table_lookups::{GroupIndex, Tables};
+use table_lookups::Tables;
 
 /// The edits that make a user of these IDs with this line of shadow, by the plan: the lines of the
 /// user, a group of its own, the groups of `-G` and the subordinate ranges.
@@ -92,23 +92,22 @@ fn join_groups(
     ensures { OnOk result (HasAlso (joined_groups asked.now tables.now) script.old script.new) }
 {
     let words = group_words(alloc, asked)?;
-    let groups = groups_asked(alloc, tables, &words)?;
-    join_all(alloc, script, &groups, words.as_slice(), asked.operand())
+    join_all(alloc, script, tables, words.as_slice(), asked.operand())
 }
 
 // The user joins the groups that the words name.
 fn join_all(
     alloc: Global,
     script: &mut Script,
-    groups: &GroupIndex<'_>,
+    tables: &Tables,
     words: &[Bytes],
     user: &[u8],
 ) -> Result<(), AllocError>
     ensures { OnOk result
-        (HasAlso (joining_all groups.now user.now words.now) script.old script.new) }
+        (HasAlso (joining_all tables.now user.now words.now) script.old script.new) }
 {
     for word in words {
-        join(alloc, script, groups, word.as_slice(), user)?;
+        join(alloc, script, tables, word.as_slice(), user)?;
     }
     Ok(())
 }
@@ -117,13 +116,13 @@ fn join_all(
 fn join(
     alloc: Global,
     script: &mut Script,
-    groups: &GroupIndex<'_>,
+    tables: &Tables,
     word: &[u8],
     user: &[u8],
 ) -> Result<(), AllocError>
-    ensures { OnOk result (HasAlso (joining groups.now user.now word.now) script.old script.new) }
+    ensures { OnOk result (HasAlso (joining tables.now user.now word.now) script.old script.new) }
 {
-    match group_name(alloc, groups, word)? {
+    match group_name(alloc, tables, word)? {
         Some(group) => script.add_to_group(alloc, group.as_slice(), user),
         None => Ok(()),
     }

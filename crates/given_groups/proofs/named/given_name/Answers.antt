@@ -33,4 +33,4 @@ pub returns-in_ok-of : goal.returns-in_ok-of
 returns-in_ok-of c =
     let name = c.args.name.now in
     ap Some (c.in_ok-of.ensures {u = tt})
-    ∙ told name (group_records c.args.groups.now) (sym c.has_group.ensures ∙ c.if-has_group.true)
+    ∙ told name (group_records c.args.tables.now) (sym c.has_group.ensures ∙ c.if-has_group.true)

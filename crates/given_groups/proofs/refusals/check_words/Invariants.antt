@@ -6,5 +6,5 @@ use Rattle.given_groups.proofs.refusals.check_words.Given as goal
 -- the first word without a group among those left is that among all
 abbrev pub invariant-loop-word : goal.invariant-loop-word
 invariant-loop-word l =
-    find (is_unknown_group l.groups) (drop l.word-index l.words)
-    ≡ find (is_unknown_group l.groups) l.words
+    find (is_unknown_group l.tables) (drop l.word-index l.words)
+    ≡ find (is_unknown_group l.tables) l.words

@@ -12,10 +12,7 @@ loop-word-preserved c =
     let names = c.loop-word.names in
     let place = c.loop-word.word-index in
     let word = c.word-item.result in
-    let named =
-    c.in_ok-name.ensures {u = tt}
-    ∙ ap (λ files. name_of (find_group c.as_slice.result.now (group_records files)))
-    (c.in_ok-groups.ensures {u = tt})
+    let named = c.in_ok-name.ensures {u = tt}
     ∙ ap (λ word. name_of (find_group word groups)) c.as_slice.ensures in
     let rest = names_of groups (drop (place + 1) words) in
     elim c.match-branch-4.branch [

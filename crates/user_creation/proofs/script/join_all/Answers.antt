@@ -8,7 +8,7 @@ use Rattle.user_creation.proofs.script.join_all.Goals as goal
 
 pub loop-word-preserved : goal.loop-word-preserved
 loop-word-preserved c =
-    let files = c.args.groups.now in
+    let files = c.args.tables.now in
     let user = c.args.user.now in
     let words = c.args.words.now in
     let place = c.loop-word.word-index in

@@ -7,5 +7,5 @@ use Rattle.user_creation.proofs.script.join_all.Given as goal
 -- with the edits of the words left, the script has those of all words behind those of before
 abbrev pub invariant-loop-word : goal.invariant-loop-word
 invariant-loop-word l =
-    followed_by (seen_script l.script) (joining_all l.groups l.user (drop l.word-index l.words))
-    ≡ followed_by (seen_script l.initial.script) (joining_all l.groups l.user l.words)
+    followed_by (seen_script l.script) (joining_all l.tables l.user (drop l.word-index l.words))
+    ≡ followed_by (seen_script l.initial.script) (joining_all l.tables l.user l.words)

@@ -15,7 +15,5 @@ returns c =
     (λ joined.
     subst (λ (user : List ℕ). HasAlso (joining_all files user words) old new) c.operand.ensures
     (subst (λ (words : List (List ℕ)). HasAlso (joining_all files c.operand.result.now words) old new)
-    (c.as_slice.ensures ∙ c.in_ok-words.ensures {u = tt})
-    (subst (λ files. HasAlso (joining_all files c.operand.result.now c.as_slice.result.now) old new)
-    (c.in_ok-groups.ensures {u = tt}) joined)))
+    (c.as_slice.ensures ∙ c.in_ok-words.ensures {u = tt}) joined))
     c.join_all.ensures
