@@ -13,8 +13,7 @@ use acct_text::Bytes;
 use command_values::ToolFault;
 use line_edits::{HashChange, ShadowAct};
 use std::alloc::{AllocError, Global};
-use table_edits::{Script, change_user_hash, demand_shadow};
-use table_lookups::Tables;
+use table_edits::{Script, Tables, change_user_hash, demand_shadow};
 
 /// The script that sets the hashes of the users, and with shadow their last change to the day.
 ///

@@ -3,7 +3,7 @@ ghost use Rattle.std.specs.Prelude.{◌≡◌, ◌≤◌, ◌++◌, [], ◌∷�
 ghost use Rattle.acct_text.specs.Limits.{table_limit};
 ghost use Rattle.acct_text.specs.Lines.{lines_of, texts_of};
 ghost use Rattle.account_model.specs.Chpasswd.{bad_line_from};
-ghost use Rattle.table_lookups.specs.Stopping.{StopsBy};
+ghost use Rattle.table_edits.specs.Stopping.{StopsBy};
 ghost use Rattle.aging_commands.specs.HashLines.{IsCut, hash_line, line_refusal, seen_line};
 
 use account_model::{LineProblem, Refusal};
@@ -11,7 +11,7 @@ use acct_text::{Bytes, cut_once, lines};
 use command_values::{ToolFault, has_byte};
 use option_words::ends_in_return;
 use std::alloc::{AllocError, Global};
-use table_lookups::Tables;
+use table_edits::Tables;
 
 /// A line of the input: a user, and the new hash.
 #[derive(Drop)]

@@ -1,2 +1,4 @@
 pub mod ActingLemmas
 pub mod IdleLemmas
+pub mod OtherUsers
+pub mod StoppingLemmas

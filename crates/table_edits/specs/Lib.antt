@@ -3,3 +3,4 @@ pub mod Acting
 pub mod Additions
 pub mod Deciding
 pub mod IdleEdits
+pub mod Stopping

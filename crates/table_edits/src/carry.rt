@@ -11,8 +11,9 @@ ghost use Rattle.table_edits.specs.SeenScript.{seen_script};
 
 use crate::idle_edits::without_idle;
 use crate::multiple::first_multiple;
-use crate::{Report, Script, SubidRecord};
+use crate::{Report, Script};
 use account_model::Tool;
+use acct_lines::SubidRecord;
 use carried_tables::{CarriedTables, RangeTable};
 use line_edits::{Edit, SubidChange};
 use range_edits::{edited_ranges, open_edits};

@@ -7,7 +7,7 @@ ghost use Rattle.line_edits.specs.SeenEdits.{seen_edit, seen_edits};
 ghost use Rattle.table.specs.TableEdits.{AreWritten};
 ghost use Rattle.table_edits.specs.IdleEdits.{LeavesAll, LeavesRecords, MakeSame, SetsShadowNameAlone, SetsUserNameAlone};
 
-use crate::{GroupRecord, GshadowRecord, PasswdRecord, ShadowRecord};
+use acct_lines::{GroupRecord, GshadowRecord, PasswdRecord, ShadowRecord};
 use line_edits::{
     DaysChange, Edit, EditedRecord, GroupChange, GshadowChange, PasswdAct, PasswdChange, ShadowAct,
     ShadowChange, ShadowFields, UserFields, leaves_name,

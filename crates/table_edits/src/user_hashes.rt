@@ -6,12 +6,11 @@ ghost use Rattle.account_model.specs.Records.{hash_alone as record_of_hash};
 ghost use Rattle.table_edits.specs.Additions.{HasAlso};
 ghost use Rattle.line_edits.specs.HashChanges.{hash_by};
 
-use crate::Script;
+use crate::{Script, Tables};
 use acct_lines::{PasswdRecord, ShadowRecord};
 use acct_text::Bytes;
 use line_edits::{Edit, HashChange, PasswdAct, ShadowAct};
 use std::alloc::{AllocError, Global};
-use table_lookups::Tables;
 
 /// Makes the shadow line on demand: where shadow lacks the user, a record with the hash of
 /// passwd goes there, and `x` into the password field of passwd.

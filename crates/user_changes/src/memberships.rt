@@ -9,13 +9,11 @@ ghost use Rattle.user_changes.specs.Memberships.{group_edit, group_names, gshado
 use crate::changes::new_name;
 use acct_text::{Bytes, Names};
 use command_values::Asked;
-use given_groups::{group_name, group_words};
 use line_edits::{
     Edit, GroupAct, GroupChange, GshadowAct, GshadowChange, Membership, NameSet, UserGroups,
 };
 use std::alloc::{AllocError, Global};
-use table_edits::Script;
-use table_lookups::Tables;
+use table_edits::{Script, Tables, group_name, group_words};
 
 /// Changes the lists of all groups, in group and in gshadow.
 pub(crate) fn write_memberships(

@@ -15,11 +15,9 @@ use crate::records::new_user;
 use account_model::{Allotment, Plan, ShadowRecord, SubidRecord};
 use acct_text::Bytes;
 use command_values::Asked;
-use given_groups::{group_name, group_words};
 use line_edits::{Edit, SubidChange};
 use std::alloc::{AllocError, Global};
-use table_edits::{Script, add_group};
-use table_lookups::Tables;
+use table_edits::{Script, Tables, add_group, group_name, group_words};
 
 /// The edits that make a user of these IDs with this line of shadow, by the plan: the lines of the
 /// user, a group of its own, the groups of `-G` and the subordinate ranges.

@@ -3,7 +3,7 @@ use Rattle.std.specs.Prelude.{None, slice_index_or}
 use Rattle.std.proofs.lemmas.List.{length-map, drop_all}
 use Rattle.acct_text.specs.Bytes.{part_of}
 use Rattle.acct_text.specs.Lines.{Line, lines_of}
-use Rattle.table_lookups.specs.Stopping.{StopsBy}
+use Rattle.table_edits.specs.Stopping.{StopsBy}
 use Rattle.aging_commands.specs.HashLines.{line_refusal}
 use Rattle.aging_commands.specs.declared.hash_lines.NewHash.{NewHash}
 use Rattle.acct_tables.proofs.LinesCounted.{lines-counted}

@@ -8,7 +8,7 @@ ghost use Rattle.account_model.specs.Tables.{passwd_records};
 ghost use Rattle.account_model.specs.Users.{find_user, has_user, other_users};
 ghost use Rattle.carried_tables.specs.KeptIds.{table_counts};
 ghost use Rattle.id_choice.specs.Used.{AreThoseOf};
-ghost use Rattle.table_lookups.specs.Stopping.{StopsBy};
+ghost use Rattle.table_edits.specs.Stopping.{StopsBy};
 
 use crate::Tables;
 use account_model::Refusal;

@@ -2,8 +2,8 @@ use Rattle.std.proofs.Common.{◌≤◌, subst}
 use Rattle.std.specs.Prelude.{◌==◌}
 use Rattle.std.proofs.lemmas.Result.{IfOk-weaker}
 use Rattle.account_model.specs.Tables.{passwd_records}
-use Rattle.table_lookups.proofs.OtherUsers.{none-beside, uid-counted}
-use Rattle.table_lookups.proofs.tables.Tables.lacks_other_of_uid.Goals as goal
+use Rattle.table_edits.proofs.OtherUsers.{none-beside, uid-counted}
+use Rattle.table_edits.proofs.tables.Tables.lacks_other_of_uid.Goals as goal
 
 -- the user of the name is the one that has it
 pub returns-then-is_uid_alone : goal.returns-then-is_uid_alone

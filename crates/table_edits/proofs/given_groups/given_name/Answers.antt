@@ -5,7 +5,7 @@ use Rattle.account_model.specs.Format.{find_named}
 use Rattle.account_model.specs.Records.{group_format}
 use Rattle.account_model.specs.Tables.{group_records}
 use Rattle.account_model.specs.declared.records.GroupRecord.{GroupRecord}
-use Rattle.given_groups.proofs.named.given_name.Goals as goal
+use Rattle.table_edits.proofs.given_groups.given_name.Goals as goal
 
 module _ (name : List ℕ) where
   -- that a group is found by the name tells its name

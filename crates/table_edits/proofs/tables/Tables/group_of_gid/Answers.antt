@@ -6,7 +6,7 @@ use Rattle.account_model.specs.Tables.{table_records}
 use Rattle.account_model.specs.declared.records.GroupRecord.{GroupRecord}
 use Rattle.account_model.specs.GivenGroups.{find_gid}
 use Rattle.carried_tables.proofs.KeptIdLemmas.{used-found}
-use Rattle.table_lookups.proofs.tables.Tables.group_of_gid.Goals as goal
+use Rattle.table_edits.proofs.tables.Tables.group_of_gid.Goals as goal
 
 -- what isn't there is nothing
 is-none : {X : Type 0} (found : Option X) → is_some found ≡ false → None ≡ found

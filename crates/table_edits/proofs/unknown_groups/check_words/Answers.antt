@@ -4,9 +4,9 @@ use Rattle.std.proofs.lemmas.List.{drop_more}
 use Rattle.account_model.specs.declared.refusal.Refusal.TheVariants.{NoGroup}
 use Rattle.account_model.specs.GivenGroups.{is_unknown_group}
 use Rattle.account_model.specs.Refusals.{refuse_if}
-use Rattle.table_lookups.specs.Stopping.{StopsBy}
-use Rattle.table_lookups.proofs.StoppingLemmas.{handed-stops, stopped-first}
-use Rattle.given_groups.proofs.refusals.check_words.Goals as goal
+use Rattle.table_edits.specs.Stopping.{StopsBy}
+use Rattle.table_edits.proofs.StoppingLemmas.{handed-stops, stopped-first}
+use Rattle.table_edits.proofs.unknown_groups.check_words.Goals as goal
 
 pub returns-in_err-check_word : goal.returns-in_err-check_word
 returns-in_err-check_word c =

@@ -8,7 +8,7 @@ use Rattle.account_model.specs.Refusals.{refuse_if}
 use Rattle.tool_answers.proofs.FirstRefusal.{refused-first}
 use Rattle.tool_answers.specs.declared.tool_fault.ToolFault.{ToolFault}
 use Rattle.tool_answers.specs.declared.tool_fault.ToolFault.TheVariants.{Refused, Memory}
-use Rattle.table_lookups.specs.Stopping.{StopsBy}
+use Rattle.table_edits.specs.Stopping.{StopsBy}
 
 -- a fault that is handed on is the answer
 pub handed-stops :

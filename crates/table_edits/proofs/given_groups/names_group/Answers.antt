@@ -5,7 +5,7 @@ use Rattle.account_model.specs.Records.{read_id}
 use Rattle.account_model.specs.Tables.{group_records}
 use Rattle.account_model.specs.declared.records.GroupRecord.{GroupRecord}
 use Rattle.carried_tables.proofs.KeptIdLemmas.{used-found}
-use Rattle.given_groups.proofs.named.names_group.Goals as goal
+use Rattle.table_edits.proofs.given_groups.names_group.Goals as goal
 
 -- a GID is used where a group has it
 pub returns-in-Some : goal.returns-in-Some

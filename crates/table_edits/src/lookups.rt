@@ -3,7 +3,7 @@
 ghost use Rattle.std.specs.Prelude.{◌≡◌, IfOk};
 ghost use Rattle.account_model.specs.Refusals.{missing_group};
 ghost use Rattle.account_model.specs.Users.{find_user, find_shadow, group_named as group_of_name, gshadow_named as gshadow_of_name, has_group, has_gshadow, has_shadow, has_user};
-ghost use Rattle.table_lookups.specs.Stopping.{StopsBy};
+ghost use Rattle.table_edits.specs.Stopping.{StopsBy};
 
 use crate::Tables;
 use account_model::Refusal;

@@ -2,14 +2,14 @@
 ghost use Rattle.std.specs.Prelude.{find, option_map};
 ghost use Rattle.account_model.specs.GivenGroups.{is_unknown_group, unknown_group, unknown_groups};
 ghost use Rattle.account_model.specs.Refusals.{refuse_if};
-ghost use Rattle.table_lookups.specs.Stopping.{StopsBy};
+ghost use Rattle.table_edits.specs.Stopping.{StopsBy};
 
-use crate::named::{group_words, names_group};
+use crate::Tables;
+use crate::given_groups::{group_words, names_group};
 use account_model::Refusal;
 use acct_text::Bytes;
 use command_values::{Asked, ToolFault};
 use std::alloc::Global;
-use table_lookups::Tables;
 
 /// Refuses a word of `-g` that names no group: `NoGroup`.
 pub fn check_given_group(alloc: Global, asked: &Asked, tables: &Tables) -> Result<(), ToolFault>

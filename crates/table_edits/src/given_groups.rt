@@ -4,15 +4,15 @@ ghost use Rattle.account_model.specs.GivenGroups.{find_group as named_by_word, g
 ghost use Rattle.account_model.specs.Tables.{group_records};
 ghost use Rattle.account_model.specs.Users.{group_named as group_of_name};
 
+use crate::Tables;
 use account_model::GroupRecord;
 use acct_lines::is_digits;
 use acct_text::{Bytes, Names};
 use command_values::{Asked, list_value, read_id};
 use std::alloc::{AllocError, Global};
-use table_lookups::Tables;
 
 /// Whether a word names a group: by its GID where the word is all digits, and else by its name.
-pub fn names_group(alloc: Global, tables: &Tables, word: &[u8]) -> Result<bool, AllocError>
+pub(crate) fn names_group(alloc: Global, tables: &Tables, word: &[u8]) -> Result<bool, AllocError>
     ensures { IfOk result (λ names.
         names ≡ is_some (named_by_word word.now (group_records tables.now))) }
 {

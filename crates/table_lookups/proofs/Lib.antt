@@ -1,2 +1,0 @@
-pub mod OtherUsers
-pub mod StoppingLemmas
