@@ -1,6 +1,6 @@
 // The groups that words name (useradd(8), usermod(8), `-g` and `-G`).
-ghost use Rattle.std.specs.Prelude.{◌≡◌, is_some, option_map, IfOk};
-ghost use Rattle.account_model.specs.GivenGroups.{find_group as named_by_word, given_group, group_words as words_of_groups};
+ghost use Rattle.std.specs.Prelude.{◌≡◌, is_some, map, option_map, IfOk};
+ghost use Rattle.account_model.specs.GivenGroups.{find_group as named_by_word, given_group, given_groups, group_words as words_of_groups};
 ghost use Rattle.account_model.specs.Tables.{group_records};
 ghost use Rattle.account_model.specs.Users.{group_named as group_of_name};
 
@@ -25,8 +25,8 @@ pub(crate) fn names_group(alloc: Global, tables: &Tables, word: &[u8]) -> Result
     }
 }
 
-/// The name of the first group that a word names; none where it names none.
-pub fn group_name(alloc: Global, tables: &Tables, word: &[u8]) -> Result<Option<Bytes>, AllocError>
+// The name of the first group that a word names; none where it names none.
+fn group_name(alloc: Global, tables: &Tables, word: &[u8]) -> Result<Option<Bytes>, AllocError>
     ensures { IfOk result (λ name. name ≡ option_map (λ group. group.name)
         (named_by_word word.now (group_records tables.now))) }
 {
@@ -84,8 +84,23 @@ fn find_group(
 }
 
 /// The words of `-G`, each once.
-pub fn group_words(alloc: Global, asked: &Asked) -> Result<Names, AllocError>
+pub(crate) fn group_words(alloc: Global, asked: &Asked) -> Result<Names, AllocError>
     ensures { IfOk result (λ words. words ≡ words_of_groups asked.now) }
 {
     list_value(alloc, asked.value_or(b'G', b""))
+}
+
+/// The names of the groups of `-G`, in the order in which they were given.
+pub fn group_names(alloc: Global, asked: &Asked, tables: &Tables) -> Result<Names, AllocError>
+    ensures { IfOk result (λ names.
+        names ≡ map (λ group. group.name) (given_groups asked.now tables.now)) }
+{
+    let words = group_words(alloc, asked)?;
+    let mut names = Names::new(alloc);
+    for word in words.as_slice() {
+        if let Some(name) = group_name(alloc, tables, word.as_slice())? {
+            names.push(name.as_slice())?;
+        }
+    }
+    Ok(names)
 }

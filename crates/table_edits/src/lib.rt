@@ -33,7 +33,7 @@ mod user_hashes;
 mod users;
 
 pub use carry::carry_out;
-pub use given_groups::{given_group, group_name, group_words};
+pub use given_groups::{given_group, group_names};
 pub use group_hashes::{demand_gshadow, set_group_hash};
 pub use new_groups::add_group;
 pub use report::Report;

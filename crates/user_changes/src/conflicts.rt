@@ -12,12 +12,11 @@ ghost use Rattle.table_edits.specs.Stopping.{StopsBy};
 use crate::changes::new_name;
 use crate::hash::{hash_of, sets_aging};
 use crate::meetings::check_meetings;
-use crate::memberships::group_names;
 use account_model::{IdSort, Refusal};
 use acct_text::Bytes;
 use command_values::{Asked, ToolFault, check_list_name, has_byte};
 use std::alloc::{AllocError, Global};
-use table_edits::{Tables, check_given_group, check_given_groups};
+use table_edits::{Tables, check_given_group, check_given_groups, group_names};
 
 /// Refuses what is missing or taken, in this order, and else gives the user's UID. `Memory` may come
 /// at each step.

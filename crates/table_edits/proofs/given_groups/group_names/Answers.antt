@@ -1,9 +1,9 @@
 use Rattle.std.proofs.Common.{[], ◌∷◌, ◌++◌, ◌+◌, ◌∙◌, drop, sym, ap}
 use Rattle.account_model.specs.GivenGroups.{find_group}
 use Rattle.account_model.specs.Tables.{group_records}
-use Rattle.user_changes.proofs.GroupNames.{name_of, names_of, names-found, names-missing}
-use Rattle.user_changes.proofs.memberships.group_names.Goals as goal
-use Rattle.user_changes.proofs.memberships.group_names.Goals.{in-Some+in_ok-push, in_default}
+use Rattle.table_edits.proofs.GroupNames.{name_of, names_of, names-found, names-missing}
+use Rattle.table_edits.proofs.given_groups.group_names.Goals as goal
+use Rattle.table_edits.proofs.given_groups.group_names.Goals.{in-Some+in_ok-push, in_default}
 
 pub loop-word-preserved : goal.loop-word-preserved
 loop-word-preserved c =
@@ -15,7 +15,7 @@ loop-word-preserved c =
     let named = c.in_ok-name.ensures {u = tt}
     ∙ ap (λ word. name_of (find_group word groups)) c.as_slice.ensures in
     let rest = names_of groups (drop (place + 1) words) in
-    elim c.match-branch-4.branch [
+    elim c.match-branch-3.branch [
       | in-Some+in_ok-push w ↦
           ap (λ names. names ++ rest)
           (w.names-is ∙ w.in_ok-push.ensures.ok

@@ -1,7 +1,7 @@
 use Rattle.std.proofs.Common.{◌≡◌, ◌++◌, drop}
 use Rattle.account_model.specs.Tables.{group_records}
-use Rattle.user_changes.proofs.GroupNames.{names_of}
-use Rattle.user_changes.proofs.memberships.group_names.Given as goal
+use Rattle.table_edits.proofs.GroupNames.{names_of}
+use Rattle.table_edits.proofs.given_groups.group_names.Given as goal
 
 -- the names so far and those of the words left are all
 abbrev pub invariant-loop-word : goal.invariant-loop-word
