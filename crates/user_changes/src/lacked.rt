@@ -16,8 +16,8 @@ ghost use Rattle.user_changes.specs.Ranges.{change_of, owner_of, range_change, r
 use crate::ranges::{UserRanges, asked_ranges};
 use account_model::IdSort;
 use acct_text::{Bytes, Tab};
+use carried_tables::edited_ranges;
 use command_values::{Asked, IdRange};
-use range_edits::edited_ranges;
 use std::alloc::{AllocError, Global};
 use subid_ranges::Ranges;
 use table_edits::Tables;
