@@ -11,7 +11,7 @@ use carried_tables::CarriedTables;
 use command_values::Asked;
 use login_defs::Defs;
 use std::alloc::Global;
-use table_lookups::Tables;
+use table_edits::Tables;
 use tool_answers::ToolFault;
 
 /// Carries out what is asked for on the tables, by the input, the settings and the day, in days
@@ -32,7 +32,7 @@ pub(crate) fn carry_out(
     requires scripted { looks_through asked.now.tool ≡ false }
     ensures { CarriesUnder defs.now day asked.now input.now tables.old tables.new result }
 {
-    let seen = Tables::carried(tables);
+    let seen = Tables::of(tables);
     let script = script_of(alloc, asked, input, &seen, defs, day)?;
     let report = report_of(alloc, asked, &seen, defs, &script)?;
     tools_are_written();

@@ -20,7 +20,7 @@ use carried_tables::edited_ranges;
 use command_values::{Asked, IdRange};
 use std::alloc::{AllocError, Global};
 use subid_ranges::Ranges;
-use table_lookups::Tables;
+use table_edits::Tables;
 
 /// The UIDs of `-V` and `-v`, or the GIDs of `-W` and `-w`, of a user with that UID so far, without
 /// the ranges that the user has already.
