@@ -1,7 +1,7 @@
--- Claims: once a command is carried out on the files by itself, each table stands where it stood
--- (`carried-stands`), and the tables that differ with what is printed are what its tool decides
--- (`carried-decides`). Way: what is left and printed is what its tool made (`made-stands`).
-use Rattle.std.proofs.Common.{◌≡◌, ℕ, List, ap, refl, subst}
+-- Claim: once a command is carried out on the files by itself, each table stands where it stood, and the
+-- tables that differ with what is printed are what its tool decides (`carried-decides`). Way: what is
+-- left and printed is what its tool made (`made-stands`).
+use Rattle.std.proofs.Common.{◌≡◌, ℕ, List, ap, refl, subst, sym}
 use Rattle.std.specs.Prelude.{Result, Ok, Err, is_some}
 use Rattle.acct_text.specs.declared.files.Files.{Files}
 use Rattle.acct_text.specs.ChangedTables.{changed_tables}
@@ -20,7 +20,7 @@ use Rattle.tool_answers.specs.Decisions.{decision_by, decision_of, written_decis
 use Rattle.tool_answers.specs.declared.decision.Output.{Output}
 use Rattle.table_edits.specs.Deciding.{IsCarriedOut, written_with}
 use Rattle.suite_tools.specs.Carrying.{CarriesUnder, StandWhere}
-use Rattle.suite_tools.specs.Deciding.{ToolDecides}
+use Rattle.suite_tools.specs.Deciding.{tool_decision}
 
 -- what a tool made has each table where it stood
 pub made-stands :
@@ -33,45 +33,34 @@ made-stands action files made is table =
 
 module _ (defs : Defs) (day : ℕ) (request : Request) (input : List ℕ) (first old last : Files)
     (output : Output) (are : old ≡ first)
-    (carries : CarriesUnder defs day request input old last (Ok output)) where
-  -- the command is carried out on the files
-  carried : CarriesUnder defs day request input first last (Ok output)
-  carried = subst (λ (files : Files). CarriesUnder defs day request input files last (Ok output)) are
-      carries
+    (carries : CarriesUnder defs day request input old last (Ok output))
+    (settings : List Setting) (holds : HasSettings defs settings) where
+  -- the tool's outcome on the files
+  abbrev outcome : Result Made Refusal
+  outcome = outcome_of (action_of request input day first settings) first
 
-  -- what is asked for is done so on them
-  abbrev action : List Setting → Action
-  action settings = action_of request input day first settings
-
-  -- what is left has each table where the files have it
-  pub carried-stands : (settings : List Setting) → HasSettings defs settings → StandWhere first last
-  carried-stands settings holds =
-      by (outcome_of (action settings) first) refl (carried settings holds)
+  -- what is left has each table where the files have it, and the tables that differ, with what is
+  -- printed, are the tool's decision
+  pub carried-decides :
+      StandWhere first last
+      × (decision_by (changed_tables (table_of first) (table_of last)) output
+      ≡ tool_decision request input day first settings)
+  carried-decides = by outcome refl
+      (subst (λ (files : Files). IsCarriedOut request.tool
+      (outcome_of (action_of request input day files settings) files) files last (Ok output)) are
+      (carries settings holds))
     where
       by :
-          (outcome : Result Made Refusal)
-          → outcome_of (action settings) first ≡ outcome
-          → IsCarriedOut request.tool outcome first last (Ok output)
+          (made : Result Made Refusal)
+          → outcome ≡ made
+          → IsCarriedOut request.tool made first last (Ok output)
           → StandWhere first last
+          × (decision_by (changed_tables (table_of first) (table_of last)) output
+          ≡ decision_of request.tool first made)
       by (Err refusal) is left = absurd (cc left)
       by (Ok made) is left =
-          let same : written_by request.tool made ≡ written_with last output = cc in
-          subst (λ (one : Written). StandWhere first one.files) same
-          (made-stands (action settings) first made is)
-
-  -- the tables that differ then, with what is printed, are the tool's decision
-  pub carried-decides :
-      ToolDecides defs day request input first
-      (decision_by (changed_tables (table_of first) (table_of last)) output)
-  carried-decides settings holds =
-      by (outcome_of (action settings) first) (carried settings holds)
-    where
-      by :
-          (outcome : Result Made Refusal)
-          → IsCarriedOut request.tool outcome first last (Ok output)
-          → decision_by (changed_tables (table_of first) (table_of last)) output
-          ≡ decision_of request.tool first outcome
-      by (Err refusal) left = absurd (cc left)
-      by (Ok made) left =
-          let same : written_with last output ≡ written_by request.tool made = cc in
-          ap (written_decision first) same
+          let same : written_by request.tool made ≡ written_with last output = cc in (
+            subst (λ (one : Written). StandWhere first one.files) same
+                (made-stands (action_of request input day first settings) first made is),
+            ap (written_decision first) (sym same),
+          )

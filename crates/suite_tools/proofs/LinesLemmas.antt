@@ -1,7 +1,6 @@
 -- Claims: what a line asks for is written behind the others where it is carried out
 -- (`carried-behind`); and a batch is what its lines so far have written, with what the others make of
--- it: line by line (`line-written`), and at the end (`all-written`), or up to a line that refuses
--- (`line-refuses`).
+-- it: line by line, up to one that refuses (`line-done`), and at the end (`all-written`).
 use Rattle.std.proofs.Common.{◌≡◌, ◌∙◌, ◌++◌, ℕ, Bool, List, [], ◌∷◌, Option, ap, refl, sym, append_assoc, append-nil}
 use Rattle.std.specs.Prelude.{Some, None, Result, Ok, Err}
 use Rattle.acct_text.specs.declared.files.Files.{Files}
@@ -75,54 +74,31 @@ module _ (ensuring : Bool) (day : ℕ) (settings : List Setting) where
 
   -- a line, with those behind it, and what becomes of it
   module _ (line : LineRequest) (left rest : List LineRequest) (first : left ≡ line ∷ rest)
-      (old new : Written) (refusal : Option Refusal)
-      (behind : IsWrittenBehind line.request.tool old new refusal (outcome_on line old.files)) where
-    -- the batch by the outcome of its line
-    by-line :
-        (outcome : Result Made Refusal)
-        → outcome_on line old.files ≡ outcome
-        → with_left left old
-        ≡ before_others old (with_rest line outcome (batch ensuring rest day settings))
-    by-line outcome is =
+      (old new : Written) where
+    -- the batch where the line is carried out, or refuses
+    abbrev pub by_refusal : Option Refusal → Result Written LineRefusal
+    by_refusal None = with_left rest new
+    by_refusal (Some refusal) =
+        Err (record { number = line.number; tool = line.request.tool; refusal = refusal })
+
+    -- what is carried out is written before the others, and a refusal refuses the batch
+    pub line-done :
+        (refusal : Option Refusal)
+        → IsWrittenBehind line.request.tool old new refusal (outcome_on line old.files)
+        → with_left left old ≡ by_refusal refusal
+    line-done refusal behind =
         ap (λ (lines : List LineRequest). with_left lines old) first
-        ∙ ap (λ (one : Result Made Refusal).
-        before_others old (with_rest line one (batch ensuring rest day settings))) is
-
-    -- one that is carried out is written before the others
-    pub line-written : refusal ≡ None → with_left left old ≡ with_left rest new
-    line-written none = by (outcome_on line old.files) refl behind
+        ∙ by (outcome_on line old.files) behind
       where
         by :
             (outcome : Result Made Refusal)
-            → outcome_on line old.files ≡ outcome
             → IsWrittenBehind line.request.tool old new refusal outcome
-            → with_left left old ≡ with_left rest new
-        by (Err found) is refused = absurd (cc (sym none ∙ refused))
-        by (Ok made) is carried =
-            by-line (Ok made) is
-            ∙ (in-turn-again old line.request.tool made (batch ensuring rest day settings made.files)
-            ∙ ap (with_left rest) (sym carried.1))
-
-    -- one that refuses refuses the batch
-    pub line-refuses :
-        (found : Refusal)
-        → refusal ≡ Some found
-        → with_left left old
-        ≡ Err (record { number = line.number; tool = line.request.tool; refusal = found })
-    line-refuses found refuses = by (outcome_on line old.files) refl behind
-      where
-        by :
-            (outcome : Result Made Refusal)
-            → outcome_on line old.files ≡ outcome
-            → IsWrittenBehind line.request.tool old new refusal outcome
-            → with_left left old
-            ≡ Err (record { number = line.number; tool = line.request.tool; refusal = found })
-        by (Ok made) is carried = absurd (cc (sym refuses ∙ carried.0))
-        by (Err other) is refused =
-            let same : other ≡ found = cc (sym refused ∙ refuses) in
-            by-line (Err other) is
-            ∙ ap (λ (one : Refusal).
-            Err (record { number = line.number; tool = line.request.tool; refusal = one })) same
+            → before_others old (with_rest line outcome (batch ensuring rest day settings))
+            ≡ by_refusal refusal
+        by (Err found) refused = ap by_refusal (sym refused)
+        by (Ok made) carried =
+            in-turn-again old line.request.tool made (batch ensuring rest day settings made.files)
+            ∙ (ap (with_left rest) (sym carried.1) ∙ ap by_refusal (sym carried.0))
 
   -- behind the last line all is written
   pub all-written :

@@ -1,18 +1,18 @@
 -- A line is written before the others, or refuses them; behind the last the batch is what is written.
-use Rattle.std.proofs.Common.{◌∙◌, Err, ap, sym}
+use Rattle.std.proofs.Common.{◌∙◌, Err, None, ap, sym}
 use Rattle.std.proofs.lemmas.Result.{IfOk-weaker}
 use Rattle.account_model.specs.BatchLines.{LineRequest, line_requests}
 use Rattle.account_model.proofs.DeedLaws.{batch-stands}
 use Rattle.option_words.specs.Batch.{requests_of}
 use Rattle.tool_answers.specs.Decisions.{decision_of_lines}
-use Rattle.suite_tools.proofs.LinesLemmas.{all-written, line-refuses, line-written}
+use Rattle.suite_tools.proofs.LinesLemmas.{all-written, line-done}
 use Rattle.suite_tools.proofs.lines.decide_lines.Goals as goal
 
 pub lines-preserved : goal.lines-preserved
 lines-preserved c = λ settings holds.
-    sym (line-written c.args.ensuring c.args.day settings c.in-Some.line _ _
-    (rw c.in-Some.is at c.in_ok-line.ensures.next) c.lines.written c.carry_out.new.self
-    c.in_ok-refusal.field-0 (c.in_ok-refusal.ensures settings holds) c.in_default-2.is)
+    sym (line-done c.args.ensuring c.args.day settings c.in-Some.line _ _
+    (rw c.in-Some.is at c.in_ok-line.ensures.next) c.lines.written c.carry_out.new.self None
+    (rw c.in_default-2.is at c.in_ok-refusal.ensures settings holds))
     ∙ c.lines.invariant settings holds
 
 pub returns-in-Some-2 : goal.returns-in-Some-2
@@ -24,9 +24,9 @@ returns-in-Some-2 c = IfOk-weaker c.refuse_line.result _ _ (λ decision is setti
       refusal = c.in-Some-2.refusal;
     }))) c.line.view_is
     ∙ ap (decision_of_lines c.args.files.now)
-    (sym (line-refuses c.args.ensuring c.args.day settings c.in-Some.line _ _
-    (rw c.in-Some.is at c.in_ok-line.ensures.next) c.lines.written c.carry_out.new.self
-    c.in_ok-refusal.field-0 (c.in_ok-refusal.ensures settings holds) c.in-Some-2.refusal c.in-Some-2.is)
+    (sym (line-done c.args.ensuring c.args.day settings c.in-Some.line _ _
+    (rw c.in-Some.is at c.in_ok-line.ensures.next) c.lines.written c.carry_out.new.self _
+    (rw c.in-Some-2.is at c.in_ok-refusal.ensures settings holds))
     ∙ c.lines.invariant settings holds))) c.refuse_line.ensures
 
 pub decision-requires : goal.decision-requires
