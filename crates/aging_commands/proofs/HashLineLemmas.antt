@@ -8,7 +8,7 @@ use Rattle.std.proofs.lemmas.List.{map-append}
 use Rattle.acct_text.specs.Bytes.{part_of}
 use Rattle.tool_answers.specs.declared.tool_fault.ToolFault.{ToolFault}
 use Rattle.tool_answers.specs.declared.tool_fault.ToolFault.TheVariants.{Refused, Memory}
-use Rattle.table_lookups.specs.Stopping.{StopsBy}
+use Rattle.table_edits.specs.Stopping.{StopsBy}
 use Rattle.std.specs.Prelude.{Option, Some, None, option_map}
 use Rattle.acct_text.specs.declared.files.Files.{Files}
 use Rattle.acct_text.specs.Lines.{Line, texts_of}

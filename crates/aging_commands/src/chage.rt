@@ -9,7 +9,7 @@ ghost use Rattle.account_model.specs.Values.{date_value, days_value};
 ghost use Rattle.tool_answers.specs.Refusing.{RefusesBy};
 ghost use Rattle.table_edits.specs.Acting.{ActsBy, IsReportOf};
 ghost use Rattle.table_edits.specs.SeenScript.{seen_script};
-ghost use Rattle.table_lookups.specs.Stopping.{StopsBy};
+ghost use Rattle.table_edits.specs.Stopping.{StopsBy};
 ghost use Rattle.line_edits.specs.ShadowChanges.{given_days};
 ghost use Rattle.aging_commands.specs.AgingFields.{SetsAging};
 
@@ -19,8 +19,7 @@ use acct_text::{Bytes, Names};
 use command_values::{Asked, Form, ToolFault, read_date, read_days};
 use line_edits::{DaysChange, ShadowAct, ShadowFields};
 use std::alloc::{AllocError, Global};
-use table_edits::{Report, Script, demand_shadow, hash_alone};
-use table_lookups::Tables;
+use table_edits::{Report, Script, Tables, demand_shadow, hash_alone};
 
 /// The script that sets the fields of the user's record in shadow; `-l` changes nothing.
 ///

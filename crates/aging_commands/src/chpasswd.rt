@@ -9,40 +9,36 @@ ghost use Rattle.table_edits.specs.SeenScript.{seen_script};
 ghost use Rattle.aging_commands.specs.HashLines.{hash_script, seen_line};
 
 use crate::hash_lines::{NewHash, read_hashes};
-use acct_text::{Bytes, lines};
+use acct_text::Bytes;
 use command_values::ToolFault;
 use line_edits::{HashChange, ShadowAct};
 use std::alloc::{AllocError, Global};
-use table_edits::{Script, change_user_hash, demand_indexed};
-use table_lookups::{Tables, UserIndex};
+use table_edits::{Script, Tables, change_user_hash, demand_shadow};
 
-/// The script that sets the hashes of the users, and with shadow their last change to the day. Of
-/// many lines each table is passed over once.
+/// The script that sets the hashes of the users, and with shadow their last change to the day.
 ///
 /// `BadLine` refuses the whole input where one of its lines is bad: the first, counted from 1.
 pub fn chpasswd(alloc: Global, input: &[u8], tables: &Tables, day: u32) -> Result<Script, ToolFault>
     requires { length input.now ≤ table_limit }
     ensures { ActsBy (chpasswd input.now tables.now day) result }
 {
-    let asked = lines(alloc, input)?.len();
-    let users = UserIndex::of(alloc, tables, asked)?;
-    let hashes = read_hashes(alloc, input, &users)?;
-    Ok(new_hashes(alloc, &hashes, &users, day)?)
+    let hashes = read_hashes(alloc, input, tables)?;
+    Ok(new_hashes(alloc, &hashes, tables, day)?)
 }
 
 // The edits of the lines, in their order.
 fn new_hashes(
     alloc: Global,
     hashes: &[NewHash],
-    users: &UserIndex<'_>,
+    tables: &Tables,
     day: u32,
 ) -> Result<Script, AllocError>
     ensures { IfOk result (λ script. seen_script script
-        ≡ in_order (map (λ hash. hash_script users.now day (seen_line hash)) hashes.now)) }
+        ≡ in_order (map (λ hash. hash_script tables.now day (seen_line hash)) hashes.now)) }
 {
     let mut script = Script::new(alloc);
     'hashes: for hash in hashes {
-        set_hash(alloc, &mut script, hash, users, day)?;
+        set_hash(alloc, &mut script, hash, tables, day)?;
     }
     Ok(script)
 }
@@ -52,14 +48,14 @@ fn set_hash(
     alloc: Global,
     script: &mut Script,
     hash: &NewHash,
-    users: &UserIndex<'_>,
+    tables: &Tables,
     day: u32,
 ) -> Result<(), AllocError>
     ensures { OnOk result
-        (HasAlso (hash_script users.now day (seen_line hash.now)) script.old script.new) }
+        (HasAlso (hash_script tables.now day (seen_line hash.now)) script.old script.new) }
 {
     let change = HashChange::Set(Bytes::of(alloc, hash.hash)?);
-    demand_indexed(alloc, script, users, hash.name)?;
-    change_user_hash(alloc, script, &users.tables(), hash.name, change)?;
+    demand_shadow(alloc, script, tables, hash.name)?;
+    change_user_hash(alloc, script, tables, hash.name, change)?;
     script.change_shadow(alloc, hash.name, ShadowAct::SetLastChange(day))
 }

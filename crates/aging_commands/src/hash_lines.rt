@@ -3,7 +3,7 @@ ghost use Rattle.std.specs.Prelude.{◌≡◌, ◌≤◌, ◌++◌, [], ◌∷�
 ghost use Rattle.acct_text.specs.Limits.{table_limit};
 ghost use Rattle.acct_text.specs.Lines.{lines_of, texts_of};
 ghost use Rattle.account_model.specs.Chpasswd.{bad_line_from};
-ghost use Rattle.table_lookups.specs.Stopping.{StopsBy};
+ghost use Rattle.table_edits.specs.Stopping.{StopsBy};
 ghost use Rattle.aging_commands.specs.HashLines.{IsCut, hash_line, line_refusal, seen_line};
 
 use account_model::{LineProblem, Refusal};
@@ -11,7 +11,7 @@ use acct_text::{Bytes, cut_once, lines};
 use command_values::{ToolFault, has_byte};
 use option_words::ends_in_return;
 use std::alloc::{AllocError, Global};
-use table_lookups::UserIndex;
+use table_edits::Tables;
 
 /// A line of the input: a user, and the new hash.
 #[derive(Drop)]
@@ -29,10 +29,10 @@ pub(crate) struct NewHash<'a> {
 pub(crate) fn read_hashes<'a>(
     alloc: Global,
     input: &'a [u8],
-    users: &UserIndex<'_>,
+    tables: &Tables,
 ) -> Result<Vec<NewHash<'a>>, ToolFault>
     requires { length input.now ≤ table_limit }
-    ensures refused { StopsBy (bad_line_from 1 users.now (lines_of input.now)) result }
+    ensures refused { StopsBy (bad_line_from 1 tables.now (lines_of input.now)) result }
     ensures read { IfOk result (λ hashes.
         map seen_line hashes.items ≡ map hash_line (texts_of (lines_of input.now))) }
 {
@@ -41,7 +41,7 @@ pub(crate) fn read_hashes<'a>(
     let mut number = 0u32;
     'lines: for (start, end) in &places {
         number += 1;
-        let hash = read_hash(alloc, &input[*start..*end], number, users)?;
+        let hash = read_hash(alloc, &input[*start..*end], number, tables)?;
         push_hash(&mut hashes, hash)?;
     }
     Ok(hashes)
@@ -61,9 +61,9 @@ fn read_hash<'a>(
     alloc: Global,
     line: &'a [u8],
     number: u32,
-    users: &UserIndex<'_>,
+    tables: &Tables,
 ) -> Result<NewHash<'a>, ToolFault>
-    ensures refused { StopsBy (line_refusal users.now number line.now) result }
+    ensures refused { StopsBy (line_refusal tables.now number line.now) result }
     ensures read { IfOk result (λ hash. seen_line hash ≡ hash_line line.now) }
 {
     let Some(new) = cut_at_colon(line) else {
@@ -72,7 +72,7 @@ fn read_hash<'a>(
     if has_byte(new.hash, b':') {
         return Err(bad_line(number, LineProblem::HashColon));
     }
-    if users.user_named(alloc, new.name)?.is_none() {
+    if tables.user_named(alloc, new.name)?.is_none() {
         let name = Bytes::of(alloc, new.name)?;
         return Err(bad_line(number, LineProblem::UnknownUser(name)));
     }

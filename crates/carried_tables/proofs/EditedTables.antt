@@ -1,10 +1,9 @@
 -- Claims: the first edit of a list and then the others make of a table what all make (`table-two`), and the
 -- only edit of a list may print what all may (`only-written`). Way: what an edit makes of lines are lines
 -- of a file (`table-step`).
-use Rattle.std.proofs.Common.{◌≡◌, ℕ, true, false, List, [], ◌∷◌, arith, get_or, length, refl, sym, ap, subst, take, drop}
+use Rattle.std.proofs.Common.{◌≡◌, ℕ, true, List, [], ◌∷◌, arith, get_or, length, refl, sym, ap, subst, take, drop}
 use Rattle.std.specs.Prelude.{Option, Some, None, is_some}
 use Rattle.acct_text.specs.Lines.{file_bytes, lines_of}
-use Rattle.acct_text.proofs.LinesLaws.{lines_of-are}
 use Rattle.account_model.specs.Edits.{Edit, edited, edited_by}
 use Rattle.account_model.specs.Format.{Format}
 use Rattle.account_model.specs.RecordEdits.{IsWrittenEdit}
@@ -13,6 +12,7 @@ use Rattle.acct_tables.proofs.EditedFiles.{edit-found}
 use Rattle.line_edits.specs.declared.edit.Edit.{Edit as DataEdit}
 use Rattle.line_edits.specs.SeenEdits.{seen_edit, seen_edits}
 use Rattle.table.specs.TableEdits.{AreWritten, table_by}
+use Rattle.table.proofs.TableLemmas.{no-edit}
 
 module _ {R : Type 0} (format : Format R) where
   -- an edit, and then the others
@@ -27,15 +27,6 @@ module _ {R : Type 0} (format : Format R) where
       ap (λ lines. Some (file_bytes (edited_by format rest lines)))
       (edit-found format none edit written text (file_bytes (edited format (lines_of text) edit))
       refl)
-
-  -- no edit
-  pub table-none : (file : Option (List ℕ)) → table_after format [] file ≡ file
-  table-none None = refl
-  table-none (Some text) = ap Some (lines_of-are text).joined
-
-  -- which leaves the table
-  pub no-edit : (file : Option (List ℕ)) → file ≡ table_after format [] file
-  no-edit file = sym (table-none file)
 
   -- a file that is there stays there
   pub table-there :
@@ -53,7 +44,8 @@ pub table-two :
     → AreWritten format becomes edits
     → table_by format becomes (drop 1 edits) (table_by format becomes (take 1 edits) file)
     ≡ table_by format becomes edits file
-table-two becomes format [] file none written = table-none format (table_after format [] file)
+table-two becomes format [] file none written =
+    sym (no-edit format (table_after format [] file))
 table-two becomes format (edit ∷ edits) file none written =
     table-step format (seen_edit becomes edit) (seen_edits becomes edits) file none written.0
 
@@ -73,11 +65,3 @@ pub only-written :
     → IsWrittenEdit format (seen_edit becomes edit)
 only-written becomes format edits edit is written =
     (subst (AreWritten format becomes) is written).0
-
--- an absent file stays absent
-pub absent-stays :
-    {R : Type 0} (format : Format R) (edits : List (Edit R)) (file : Option (List ℕ))
-    → is_some file ≡ false
-    → file ≡ table_after format edits file
-absent-stays format edits None absent = refl
-absent-stays format edits (Some text) absent = absurd cc

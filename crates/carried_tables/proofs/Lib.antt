@@ -6,3 +6,6 @@ pub mod KeptIdLemmas
 pub mod OwnedRanges
 pub mod OnlyRange
 pub mod CutLemmas
+pub mod RemovalLemmas
+pub mod RangeCuts
+pub mod LeftLemmas

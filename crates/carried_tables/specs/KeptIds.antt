@@ -5,6 +5,7 @@ use Rattle.account_model.specs.Format.{Format, is_named}
 use Rattle.account_model.specs.RecordEdits.{records_edited}
 use Rattle.account_model.specs.Tables.{table_records}
 use Rattle.account_model.specs.Ids.{is_used}
+use Rattle.table.specs.Accepting.{IsNumberOf}
 use Rattle.line_edits.specs.declared.group_changes.GroupAct.{GroupAct}
 use Rattle.line_edits.specs.declared.group_changes.GroupAct.TheVariants.{SetGid}
 use Rattle.line_edits.specs.declared.passwd_changes.PasswdAct.{PasswdAct}
@@ -42,6 +43,10 @@ abbrev pub FollowEdit :
 FollowEdit format id_of old new records edit =
     AreIdsOf old (counts_of (map id_of records))
     → AreIdsOf new (counts_of (map id_of (records_edited format records edit)))
+
+-- the line of each record has the decimal text of its ID
+abbrev pub AreNumbered : {R : Type 0} → Format R → (R → ℕ) → Type 0
+AreNumbered format id_of = (id : ℕ) → IsNumberOf format (λ r. id_of r == id) id
 
 -- ---- What changes do
 

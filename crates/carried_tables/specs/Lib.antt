@@ -1,5 +1,6 @@
-pub mod Standing
 pub mod Sources
 pub mod RangeNumbers
 pub mod InUse
 pub mod KeptIds
+pub mod LeftRanges
+pub mod RangeRemovals

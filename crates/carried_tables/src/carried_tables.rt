@@ -1,26 +1,25 @@
 // The tables that commands carry from one to the next (passwd(5), shadow(5), group(5), gshadow(5),
 // subuid(5), subgid(5)).
-ghost use Rattle.std.specs.Prelude.{◌≡◌, None, IfOk, OnOk};
-ghost use Rattle.account_model.specs.Records.{group_format, gshadow_format, passwd_format, shadow_format};
+ghost use Rattle.std.specs.Prelude.{◌≡◌, IfOk, OnOk};
+ghost use Rattle.account_model.specs.Records.{group_format, gshadow_format, passwd_format, shadow_format, subid_format};
 ghost use Rattle.line_edits.specs.GroupChanges.{group_becomes};
 ghost use Rattle.line_edits.specs.GshadowChanges.{gshadow_becomes};
 ghost use Rattle.line_edits.specs.PasswdChanges.{passwd_becomes};
 ghost use Rattle.line_edits.specs.ShadowChanges.{shadow_becomes};
+ghost use Rattle.line_edits.specs.SubidChanges.{subid_becomes};
 ghost use Rattle.table.specs.TableEdits.{AreWritten, table_by};
 
-use crate::{IdRecord, IdTable, RangeTable};
-use acct_lines::{GroupRecord, GshadowRecord, PasswdRecord, ShadowRecord};
-use acct_text::{Bytes, Files};
-use line_edits::{Edit, GroupChange, GshadowChange, PasswdChange, ShadowChange};
-use record_keys::KeyedRecord;
+use crate::{IdTable, RangeTable};
+use acct_lines::{GroupRecord, GshadowRecord, PasswdRecord, ShadowRecord, SubidRecord};
+use acct_text::Files;
+use line_edits::{Edit, GroupChange, GshadowChange, PasswdChange, ShadowChange, SubidChange};
 use std::alloc::{AllocError, Global};
 use std::marker::Model;
-use std::mem::replace;
-use table::Table;
+use table::{Table, copy_of};
 
-/// The six tables, which edits change where they stand: a command takes no pass over all records for
-/// what it looks up by name, for the IDs that are used, and for edits of records that it names.
-/// Contracts see them as the files.
+/// The six tables. Where an index is asked for, a command takes no pass over all records of a table for
+/// what it looks up by name, for the IDs that are used, and for edits of records that it names. Contracts
+/// see them as the files.
 pub struct CarriedTables {
     passwd: IdTable<PasswdRecord>,
     shadow: Table<ShadowRecord>,
@@ -60,33 +59,63 @@ impl Model for CarriedTables {
 }
 
 impl CarriedTables {
-    /// The tables of the files, in a few passes over each.
+    /// The tables of the files, whose bytes are copied and not looked at.
     pub fn of(alloc: Global, files: &Files) -> Result<Self, AllocError>
         ensures { IfOk result (λ tables. tables ≡ files.now) }
     {
         let mut tables = CarriedTables {
-            passwd: IdTable::absent(),
-            shadow: Table::absent(),
-            group: IdTable::absent(),
-            gshadow: Table::absent(),
-            subuid: RangeTable::absent(),
-            subgid: RangeTable::absent(),
+            passwd: IdTable::owning(None),
+            shadow: Table::owning(None),
+            group: IdTable::owning(None),
+            gshadow: Table::owning(None),
+            subuid: RangeTable::owning(None),
+            subgid: RangeTable::owning(None),
         };
         tables.load(alloc, files)?;
         Ok(tables)
     }
 
-    // Makes them the tables of the files. One that is loaded has its place at once, so none is left to
+    // Makes them the tables of the files. One that is copied has its place at once, so none is left to
     // be dropped where memory is wanting.
     fn load(&mut self, alloc: Global, files: &Files) -> Result<(), AllocError>
         ensures { OnOk result (self.new ≡ files.now) }
     {
-        load_ids(alloc, &mut self.passwd, &files.passwd)?;
-        load_lines(alloc, &mut self.shadow, &files.shadow)?;
-        load_ids(alloc, &mut self.group, &files.group)?;
-        load_lines(alloc, &mut self.gshadow, &files.gshadow)?;
-        load_ranges(&mut self.subuid, &files.subuid)?;
-        load_ranges(&mut self.subgid, &files.subgid)
+        self.passwd = IdTable::owning(copy_of(alloc, &files.passwd)?);
+        self.shadow = Table::owning(copy_of(alloc, &files.shadow)?);
+        self.group = IdTable::owning(copy_of(alloc, &files.group)?);
+        self.gshadow = Table::owning(copy_of(alloc, &files.gshadow)?);
+        self.subuid = RangeTable::owning(copy_of(alloc, &files.subuid)?);
+        self.subgid = RangeTable::owning(copy_of(alloc, &files.subgid)?);
+        Ok(())
+    }
+
+    /// Makes an index of each table, and gathers the IDs of users and groups. It serves commands that
+    /// follow one another. At `AllocError` some of the tables may be gone.
+    pub fn index(&mut self, alloc: Global) -> Result<(), AllocError>
+        ensures { OnOk result (self.new ≡ self.old) }
+    {
+        self.subuid.index();
+        self.subgid.index();
+        self.index_users(alloc)?;
+        self.index_groups(alloc)
+    }
+
+    /// Makes an index of passwd(5), with its UIDs, and of shadow(5). At `AllocError` one of them may be
+    /// gone.
+    pub fn index_users(&mut self, alloc: Global) -> Result<(), AllocError>
+        ensures { OnOk result (self.new ≡ self.old) }
+    {
+        self.passwd.index(alloc)?;
+        self.shadow.index(alloc)
+    }
+
+    /// Makes an index of group(5), with its GIDs, and of gshadow(5). At `AllocError` one of them may be
+    /// gone.
+    pub fn index_groups(&mut self, alloc: Global) -> Result<(), AllocError>
+        ensures { OnOk result (self.new ≡ self.old) }
+    {
+        self.group.index(alloc)?;
+        self.gshadow.index(alloc)
     }
 
     /// The table passwd(5), with its UIDs.
@@ -131,8 +160,8 @@ impl CarriedTables {
         &self.subgid
     }
 
-    /// Carries out the edits of the tables of users and groups, those of each in their order. At
-    /// `AllocError` some of them may be.
+    /// Carries out the edits of the tables, those of each in their order. At `AllocError` some of them may
+    /// be, and a table may be gone.
     pub fn edit(
         &mut self,
         alloc: Global,
@@ -140,56 +169,35 @@ impl CarriedTables {
         shadow: &[Edit<ShadowRecord, ShadowChange>],
         group: &[Edit<GroupRecord, GroupChange>],
         gshadow: &[Edit<GshadowRecord, GshadowChange>],
+        subuid: &[Edit<SubidRecord, SubidChange>],
+        subgid: &[Edit<SubidRecord, SubidChange>],
     ) -> Result<(), AllocError>
         requires passwd { AreWritten passwd_format passwd_becomes passwd.now }
         requires shadow { AreWritten shadow_format shadow_becomes shadow.now }
         requires group { AreWritten group_format group_becomes group.now }
         requires gshadow { AreWritten gshadow_format gshadow_becomes gshadow.now }
-        ensures { OnOk result (self.new ≡ record self.old {
+        requires subuid { AreWritten subid_format subid_becomes subuid.now }
+        requires subgid { AreWritten subid_format subid_becomes subgid.now }
+        ensures { OnOk result (self.new ≡ record {
           passwd = table_by passwd_format passwd_becomes passwd.now self.old.passwd;
           shadow = table_by shadow_format shadow_becomes shadow.now self.old.shadow;
           group = table_by group_format group_becomes group.now self.old.group;
           gshadow = table_by gshadow_format gshadow_becomes gshadow.now self.old.gshadow;
+          subuid = table_by subid_format subid_becomes subuid.now self.old.subuid;
+          subgid = table_by subid_format subid_becomes subgid.now self.old.subgid;
         }) }
     {
         self.passwd.edit(alloc, passwd)?;
         self.shadow.edit(alloc, shadow)?;
         self.group.edit(alloc, group)?;
-        self.gshadow.edit(alloc, gshadow)
+        self.gshadow.edit(alloc, gshadow)?;
+        self.subuid.edit(alloc, subuid)?;
+        self.subgid.edit(alloc, subgid)
     }
 
-    /// Takes the table subuid(5) out, for edits: there is no such file until it is put back.
-    pub fn take_subuid(&mut self) -> RangeTable
-        ensures taken { result ≡ self.old.subuid }
-        ensures left { self.new ≡ record self.old { subuid = None } }
-    {
-        replace(&mut self.subuid, RangeTable::absent())
-    }
-
-    /// Puts the table in the place of subuid(5).
-    pub fn put_subuid(&mut self, table: RangeTable)
-        ensures { self.new ≡ record self.old { subuid = table } }
-    {
-        self.subuid = table;
-    }
-
-    /// Takes the table subgid(5) out, as `take_subuid` does that of subuid(5).
-    pub fn take_subgid(&mut self) -> RangeTable
-        ensures taken { result ≡ self.old.subgid }
-        ensures left { self.new ≡ record self.old { subgid = None } }
-    {
-        replace(&mut self.subgid, RangeTable::absent())
-    }
-
-    /// Puts the table in the place of subgid(5).
-    pub fn put_subgid(&mut self, table: RangeTable)
-        ensures { self.new ≡ record self.old { subgid = table } }
-    {
-        self.subgid = table;
-    }
-
-    /// Takes the files out that the tables make now, in a pass over each table. What a table holds is
-    /// let go before the file of the next is made. At `AllocError` some of the tables are gone.
+    /// Takes the files out that the tables make now, in a pass over each table that has an index. What a
+    /// table holds is let go before the file of the next is made. At `AllocError` some of the tables are
+    /// gone.
     pub fn take_files(&mut self) -> Result<Files, AllocError>
         ensures { IfOk result (λ files. files ≡ self.old) }
     {
@@ -202,36 +210,4 @@ impl CarriedTables {
             subgid: self.subgid.take_file()?,
         })
     }
-}
-
-// Puts the table of a file in the place of one whose records have IDs.
-fn load_ids<R: IdRecord + Drop>(
-    alloc: Global,
-    table: &mut IdTable<R>,
-    file: &Option<Bytes>,
-) -> Result<(), AllocError>
-    ensures { OnOk result (table.new ≡ file.now) }
-{
-    *table = IdTable::of(alloc, file)?;
-    Ok(())
-}
-
-// Puts the table of a file in the place of another.
-fn load_lines<R: KeyedRecord + Drop>(
-    alloc: Global,
-    table: &mut Table<R>,
-    file: &Option<Bytes>,
-) -> Result<(), AllocError>
-    ensures { OnOk result (table.new ≡ file.now) }
-{
-    *table = Table::of(alloc, file)?;
-    Ok(())
-}
-
-// Puts the table of a file of subordinate IDs in the place of another.
-fn load_ranges(table: &mut RangeTable, file: &Option<Bytes>) -> Result<(), AllocError>
-    ensures { OnOk result (table.new ≡ file.now) }
-{
-    *table = RangeTable::of(file)?;
-    Ok(())
 }

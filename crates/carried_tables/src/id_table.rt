@@ -11,20 +11,19 @@ ghost use Rattle.carried_tables.specs.KeptIds.{AreIdsOf, FollowEdit, Renumbers, 
 ghost use Rattle.table.specs.TableEdits.{AreWritten, table_by};
 
 use crate::IdsInUse;
-use crate::ids::{IdRecord, Renumbering, listed_ids, used_ids};
+use crate::ids::{IdRecord, OfId, Renumbering, listed_ids, used_ids};
 use crate::kept_ids::KeptIds;
 use acct_text::Bytes;
 use line_edits::Edit;
 use std::alloc::{AllocError, Global};
 use std::marker::Model;
-use std::mem::replace;
 use table::Table;
 
-/// A table of the records R, and their IDs. Contracts see it as the bytes of its file, and none where
-/// the file is absent.
+/// A table of the records R, and their IDs where they were gathered. Contracts see it as the bytes of
+/// its file, and none where the file is absent.
 pub struct IdTable<R: IdRecord> {
     table: Table<R>,
-    // none only where memory was wanting while they changed
+    // none until they are gathered, and where memory was wanting while they changed
     ids: Option<KeptIds>,
 }
 
@@ -48,34 +47,34 @@ impl<R: IdRecord> Model for IdTable<R> {
 }
 
 impl<R: IdRecord + Drop> IdTable<R> {
-    /// The table of no file.
-    pub(crate) fn absent() -> Self
-        ensures { result ≡ None }
+    /// The table of this file, which is absent where there is none.
+    pub(crate) fn owning(file: Option<Bytes>) -> Self
+        ensures { result ≡ file }
     {
         IdTable {
-            table: Table::absent(),
+            table: Table::owning(file),
             ids: None,
         }
     }
 
-    /// The table of the file, with its IDs.
-    pub(crate) fn of(alloc: Global, file: &Option<Bytes>) -> Result<Self, AllocError>
-        ensures { IfOk result (λ table. table ≡ file.now) }
+    /// Makes the index of the table and gathers the IDs, in a pass each, unless that is done. At
+    /// `AllocError` the table is gone.
+    pub(crate) fn index(&mut self, alloc: Global) -> Result<(), AllocError>
+        ensures { OnOk result (self.new ≡ self.old) }
     {
-        let table = Table::of(alloc, file)?;
-        let ids = ids_of::<R>(alloc, file)?;
-        Ok(IdTable {
-            table,
-            ids: Some(ids),
-        })
+        let known = self.ids.take();
+        self.table.index(alloc)?;
+        self.ids = known;
+        self.gather(alloc)
     }
 
-    /// Takes the bytes of the file out, and lets the rest go; none where it is absent.
+    /// Takes the bytes of the file out; none where it is absent. They are made in a pass over the lines
+    /// where the table has an index.
     pub(crate) fn take_file(&mut self) -> Result<Option<Bytes>, AllocError>
         ensures { IfOk result (λ file. file ≡ self.old) }
     {
-        let taken = replace(self, IdTable::absent());
-        taken.table.file()
+        self.ids = None;
+        self.table.take_file()
     }
 
     /// The table, for what doesn't ask for IDs.
@@ -85,7 +84,7 @@ impl<R: IdRecord + Drop> IdTable<R> {
         &self.table
     }
 
-    /// The IDs of all records.
+    /// The IDs of all records, which are gathered for this call where they aren't known.
     pub fn used(&self, alloc: Global) -> Result<IdsInUse<'_>, AllocError>
         ensures { IfOk result (λ used.
             AreThoseOf used (map R.id_of (table_records R.format self.now))) }
@@ -93,18 +92,21 @@ impl<R: IdRecord + Drop> IdTable<R> {
         match &self.ids {
             Some(ids) => Ok(IdsInUse::kept(&ids.used)),
             None => {
-                let file = self.table.file()?;
-                Ok(IdsInUse::gathered(used_ids::<R>(alloc, &file)?))
+                let ids = used_ids::<R>(alloc, self.table.seen()?.file())?;
+                Ok(IdsInUse::gathered(ids))
             }
         }
     }
 
-    /// Whether a record has the ID.
+    /// Whether a record has the ID. Where the IDs aren't known it takes a pass over the lines.
     pub fn has_id(&self, alloc: Global, id: u32) -> Result<bool, AllocError>
         ensures { IfOk result (λ has.
             has ≡ is_used (map R.id_of (table_records R.format self.now)) id) }
     {
-        Ok(self.used(alloc)?.ids().holds(id))
+        match &self.ids {
+            Some(ids) => Ok(ids.used.holds(id)),
+            None => Ok(self.table.first_passing(alloc, &OfId { id })?.is_some()),
+        }
     }
 
     /// Whether it is known that no record has the ID.
@@ -128,13 +130,16 @@ impl<R: IdRecord + Drop> IdTable<R> {
         }
     }
 
-    /// Carries the edits out, in their order. The IDs follow an added record, and one whose ID goes or
-    /// changes where no other has its name or its ID; behind other edits they are gathered anew. At
-    /// `AllocError` some of the edits may be made.
+    /// Carries the edits out, in their order. Where the IDs are known they follow an added record, and
+    /// one whose ID goes or changes where no other has its name or its ID; behind other edits they are
+    /// gathered anew. At `AllocError` some of the edits may be made, or the table is gone.
     pub fn edit(&mut self, alloc: Global, edits: &[Edit<R, R::Change>]) -> Result<(), AllocError>
         requires { AreWritten R.format R.becomes edits.now }
         ensures { OnOk result (self.new ≡ table_by R.format R.becomes edits.now self.old) }
     {
+        if self.ids.is_none() {
+            return self.table.edit(alloc, edits);
+        }
         if !self.table.is_there() {
             return Ok(());
         }
@@ -167,8 +172,7 @@ impl<R: IdRecord + Drop> IdTable<R> {
         if self.ids.is_some() {
             return Ok(());
         }
-        let file = self.table.file()?;
-        let ids = ids_of::<R>(alloc, &file)?;
+        let ids = ids_of::<R>(alloc, self.table.seen()?.file())?;
         self.ids = Some(ids);
         Ok(())
     }

@@ -3,7 +3,7 @@ ghost use Rattle.std.specs.Prelude.{◌≡◌, ◌++◌, ℕ, true, [], map, opt
 ghost use Rattle.std.specs.List.{cons_option};
 ghost use Rattle.account_model.specs.Tables.{table_records};
 ghost use Rattle.id_choice.specs.Used.{AreThoseOf};
-ghost use Rattle.carried_tables.specs.KeptIds.{KeepsIds, Renumbers, keeps_gid, keeps_uid};
+ghost use Rattle.carried_tables.specs.KeptIds.{AreNumbered, KeepsIds, Renumbers, keeps_gid, keeps_uid};
 
 use acct_lines::{GroupLine, GroupRecord, PasswdLine, PasswdRecord};
 use acct_tables::Lines;
@@ -12,7 +12,7 @@ use id_choice::UsedIds;
 use line_edits::{GroupAct, GroupChange, PasswdAct, PasswdChange};
 use record_keys::KeyedRecord;
 use std::alloc::{AllocError, Global};
-use table::text_of;
+use table::{RecordTest, text_of};
 
 /// What a change does with the IDs of the records of one name.
 #[derive(Clone, Copy)]
@@ -45,9 +45,14 @@ pub trait IdRecord: KeyedRecord {
     fn renumbers(change: &Self::Change) -> Option<Renumbering<'_>>
         ensures { IfSome result (λ renumbering. Renumbers Self.format id_of
             (Self.becomes change.now) renumbering.name.now renumbering.new_id) };
+
+    // the line of each record has the decimal text of its ID
+    ghost numbered: { AreNumbered Self.format id_of };
 }
 
 impl IdRecord for PasswdRecord {
+    ghost use Rattle.table.proofs.NumberLemmas.{uid-of-user};
+
     ghost id_of = { λ user. user.uid };
 
     fn id(&self) -> u32 {
@@ -79,9 +84,13 @@ impl IdRecord for PasswdRecord {
             _ => None,
         }
     }
+
+    ghost numbered = { uid-of-user };
 }
 
 impl IdRecord for GroupRecord {
+    ghost use Rattle.table.proofs.NumberLemmas.{gid-of-group};
+
     ghost id_of = { λ group. group.gid };
 
     fn id(&self) -> u32 {
@@ -111,6 +120,35 @@ impl IdRecord for GroupRecord {
                 new_id: None,
             }),
             _ => None,
+        }
+    }
+
+    ghost numbered = { gid-of-group };
+}
+
+/// That a record has the ID.
+#[derive(Clone, Copy)]
+pub(crate) struct OfId {
+    pub(crate) id: u32,
+}
+
+impl<R: IdRecord> RecordTest<R> for OfId {
+    ghost use Rattle.std.specs.Prelude.{◌==◌};
+
+    ghost accepts = { λ test item. R.id_of item == test.id };
+
+    fn number(&self) -> u32 {
+        self.id
+    }
+
+    fn key(&self) -> Option<u64> {
+        None
+    }
+
+    fn passes(&self, line: &[u8]) -> bool {
+        match R::id_in(line) {
+            Some(id) => id == self.id,
+            None => false,
         }
     }
 }

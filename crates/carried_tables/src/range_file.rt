@@ -7,11 +7,10 @@ ghost use Rattle.account_model.specs.FreeRange.{free_range};
 ghost use Rattle.account_model.specs.SubidOwner.{is_owned};
 
 use crate::RangeTable;
-use crate::range_table::{copy_of, gap_in};
 use acct_text::Bytes;
 use std::alloc::{AllocError, Global};
 use std::marker::Model;
-use subid_ranges::has_owner_in;
+use subid_ranges::{free_gap_in, has_owner_in};
 use table::text_of;
 
 /// Where the file stands.
@@ -73,13 +72,14 @@ impl<'a> RangeFile<'a> {
         ensures { IfOk result (λ file. file ≡ self.now) }
     {
         match self.source {
-            Source::Bytes(file) => copy_of(file),
+            Source::Bytes(Some(text)) => Ok(Some(text.copy()?)),
+            Source::Bytes(None) => Ok(None),
             Source::Table(table) => table.file(),
         }
     }
 
     /// Whether the owner of a range is the name, or the decimal text of the UID. It takes no pass over
-    /// the lines of a carried table to which an edit came.
+    /// the lines of a carried table that has an index.
     pub fn has_owner(&self, name: &[u8], uid: Option<u32>) -> bool
         ensures { result ≡ list_any (is_owned name.now uid) (table_records subid_format self.now) }
     {
@@ -108,4 +108,19 @@ impl<'a> RangeFile<'a> {
             Source::Table(table) => table.free_gap(alloc, min, max, count),
         }
     }
+}
+
+/// The least start among the ranges of the file, as `free_gap` has it.
+pub(crate) fn gap_in(
+    alloc: Global,
+    file: &Option<Bytes>,
+    min: u32,
+    max: u32,
+    count: u32,
+) -> Result<Option<u32>, AllocError>
+    requires { 0 < count }
+    ensures { IfOk result (λ start.
+        start ≡ free_range min max count (table_records subid_format file.now)) }
+{
+    free_gap_in(alloc, text_of(file), min, max, count)
 }

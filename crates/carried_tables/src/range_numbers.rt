@@ -4,7 +4,7 @@ ghost use Rattle.std.specs.Prelude.{◌≡◌, ◌∷◌, [], None, true, is_som
 ghost use Rattle.account_model.specs.Edits.Edit.{Become};
 ghost use Rattle.account_model.specs.RecordEdits.{IsWrittenEdit};
 ghost use Rattle.account_model.specs.Records.{subid_format};
-ghost use Rattle.account_model.specs.Tables.{table_after, table_records};
+ghost use Rattle.account_model.specs.Tables.{table_after};
 ghost use Rattle.account_model.specs.Written.{IsWritten};
 ghost use Rattle.line_edits.specs.SeenEdits.{seen_edit};
 ghost use Rattle.line_edits.specs.SubidChanges.{subid_becomes};
@@ -101,23 +101,6 @@ pub(crate) fn numbers_and(
     Ok(Some(numbers))
 }
 
-/// The numbers of the ranges, if they are known, and gathered where they aren't and are wanted.
-pub(crate) fn wanted_numbers(
-    alloc: Global,
-    known: Option<RangeNumbers>,
-    are_wanted: bool,
-    table: &Table<SubidRecord>,
-) -> Result<Option<RangeNumbers>, AllocError>
-    requires { IfSome known (AreNumbersIn table.now) }
-    ensures numbers { IfOk result (λ numbers. IfSome numbers (AreNumbersIn table.now)) }
-    ensures given { are_wanted ≡ true → IfOk result (λ numbers. is_some numbers ≡ true) }
-{
-    if !are_wanted {
-        return Ok(known);
-    }
-    Ok(Some(known_or_gathered(alloc, known, table)?))
-}
-
 // The numbers of the ranges, in a pass over the lines where they aren't known.
 fn known_or_gathered(
     alloc: Global,
@@ -129,6 +112,6 @@ fn known_or_gathered(
 {
     match known {
         Some(numbers) => Ok(numbers),
-        None => RangeNumbers::of(alloc, text_of(&table.file()?)),
+        None => RangeNumbers::of(alloc, text_of(table.seen()?.file())),
     }
 }

@@ -1,6 +1,6 @@
-// A table of subordinate IDs that is carried from command to command: the file as it was read, and from
-// the first edit on its lines (useradd(8), userdel(8), usermod(8), `-l`; subuid(5), subgid(5)).
-ghost use Rattle.std.specs.Prelude.{◌≡◌, ◌<◌, None, Some, is_some, IfOk, OnOk};
+// A table of subordinate IDs that is carried from command to command (useradd(8), userdel(8),
+// usermod(8), `-l`; subuid(5), subgid(5)).
+ghost use Rattle.std.specs.Prelude.{◌≡◌, ◌<◌, None, Some, is_some, IfOk, MatchOption, OnOk};
 ghost use Rattle.std.specs.List.{list_any};
 ghost use Rattle.account_model.specs.Records.{subid_format};
 ghost use Rattle.account_model.specs.Tables.{table_records};
@@ -8,78 +8,81 @@ ghost use Rattle.account_model.specs.FreeRange.{free_range};
 ghost use Rattle.account_model.specs.SubidOwner.{is_owned};
 ghost use Rattle.table.specs.TableEdits.{AreWritten, table_by};
 ghost use Rattle.line_edits.specs.SubidChanges.{subid_becomes};
-ghost use Rattle.carried_tables.specs.Standing.{file_in};
 
-use crate::RangeFile;
-use crate::range_lines::RangeLines;
+use crate::left_ranges::open_edits;
+use crate::range_edits::edited_ranges;
+use crate::range_file::{RangeFile, gap_in};
 use acct_lines::SubidRecord;
 use acct_text::Bytes;
+use itoa::Buffer;
 use line_edits::{Edit, SubidChange};
 use std::alloc::{AllocError, Global};
 use std::marker::Model;
-use std::mem::replace;
-use subid_ranges::{free_gap_in, has_owner_in};
-use table::text_of;
+use subid_ranges::RangeNumbers;
+use table::Table;
 
-/// How a table stands.
-#[derive(Drop)]
-pub(crate) enum Standing {
-    /// As its file, which is absent where there is none.
-    File(Option<Bytes>),
-    /// As lines, once an edit came.
-    Lines(RangeLines),
-}
+// From so many edits on, of which one takes IDs out of ranges, these are made in one pass, as an owner
+// may have many ranges.
+const MANY_WITH_CUT: usize = 8;
 
-/// A table of subordinate IDs. Contracts see it as the bytes of its file, and none where the file is
-/// absent.
+/// A table of subordinate IDs, beside which the numbers of its ranges are kept once a range is added by
+/// an index. Contracts see it as the bytes of its file, and none where the file is absent.
 pub struct RangeTable {
-    standing: Standing,
+    pub(crate) table: Table<SubidRecord>,
+    // those of its ranges, where they are known
+    pub(crate) numbers: Option<RangeNumbers>,
+    // whether edits are made where the ranges stand
+    wants_index: bool,
 }
 
-// One call for all that may be there, so that who holds several tables has few ways through them.
+// One call for what may be there, so that who holds several tables has few ways through them.
 impl Drop for RangeTable {
     fn drop(self) {
-        let RangeTable { standing: _ } = self;
+        let RangeTable {
+            table: _,
+            numbers: _,
+            wants_index: _,
+        } = self;
     }
 }
 
 impl Model for RangeTable {
-    ghost use Rattle.std.specs.Prelude.{ℕ, List, Option};
-    ghost use Rattle.carried_tables.specs.Standing.{file_in};
+    ghost use Rattle.std.specs.Prelude.{ℕ, List, Option, IfSome};
+    ghost use Rattle.carried_tables.specs.RangeNumbers.{AreNumbersIn};
 
     ghost Value = { Option (List ℕ) };
 
-    ghost view = { λ t. file_in t.standing };
+    ghost view = { λ t. t.table };
+
+    ghost invariant = { λ t. IfSome t.numbers (AreNumbersIn t.table) };
 }
 
 impl RangeTable {
-    /// The table of no file.
-    pub fn absent() -> Self
-        ensures { result ≡ None }
+    /// The table of this file, which is absent where there is none.
+    pub fn owning(file: Option<Bytes>) -> Self
+        ensures { result ≡ file }
     {
         RangeTable {
-            standing: Standing::File(None),
+            table: Table::owning(file),
+            numbers: None,
+            wants_index: false,
         }
     }
 
-    /// The table of the file.
-    pub fn of(file: &Option<Bytes>) -> Result<Self, AllocError>
-        ensures { IfOk result (λ table. table ≡ file.now) }
+    /// From here on edits are made where the ranges stand, by an index that the first of them makes.
+    pub fn index(&mut self)
+        ensures { self.new ≡ self.old }
     {
-        Ok(RangeTable {
-            standing: Standing::File(copy_of(file)?),
-        })
+        self.wants_index = true;
     }
 
-    /// Takes the bytes of the file out, in a pass over its lines where an edit came; none where it is
-    /// absent. The table is absent then.
+    /// Takes the bytes of the file out; none where it is absent. They are made in a pass over the lines
+    /// where the table has an index.
     pub fn take_file(&mut self) -> Result<Option<Bytes>, AllocError>
         ensures { IfOk result (λ file. file ≡ self.old) }
     {
-        match self.take_standing() {
-            Standing::File(file) => Ok(file),
-            Standing::Lines(lines) => lines.file(),
-        }
+        self.numbers = None;
+        self.table.take_file()
     }
 
     /// The file as it is asked.
@@ -89,68 +92,37 @@ impl RangeTable {
         RangeFile::carried(self)
     }
 
-    /// Carries the edits out, in their order: a range that is added, an owner that gets another name,
-    /// one whose ranges go, and one whose only range loses an end take no pass over the lines. These are
-    /// made in two passes where no edit came before, and the numbers of their ranges gathered in one
-    /// where a range is added and they aren't known, or where they were and don't follow an edit. At
-    /// `AllocError` some of the edits may be made, or the table is gone.
-    pub fn edit(
-        &mut self,
-        alloc: Global,
-        edits: &[Edit<SubidRecord, SubidChange>],
-    ) -> Result<(), AllocError>
-        requires { AreWritten subid_format subid_becomes edits.now }
-        ensures { OnOk result (self.new ≡ table_by subid_format subid_becomes edits.now self.old) }
-    {
-        let mut lines = opened(alloc, self.take_standing())?;
-        lines.edit(alloc, edits)?;
-        self.standing = Standing::Lines(lines);
-        Ok(())
-    }
-
-    /// Puts these bytes in the place of those of the file. Where it stands as lines they are made anew,
-    /// in two passes, and the numbers of their ranges gathered again where they were known. At
-    /// `AllocError` the table is gone.
-    pub fn put(&mut self, alloc: Global, text: Bytes) -> Result<(), AllocError>
-        ensures { OnOk result (self.new ≡ Some text) }
-    {
-        self.standing = renewed(alloc, self.take_standing(), Some(text))?;
-        Ok(())
-    }
-
     /// Whether there is a file.
-    pub(crate) fn is_there(&self) -> bool
+    pub fn is_there(&self) -> bool
         ensures { result ≡ is_some self.now }
     {
-        match &self.standing {
-            Standing::File(file) => file.is_some(),
-            Standing::Lines(lines) => lines.is_there(),
-        }
+        self.table.is_there()
     }
 
     /// A copy of the bytes; none where there is no file.
-    pub(crate) fn file(&self) -> Result<Option<Bytes>, AllocError>
+    pub fn file(&self) -> Result<Option<Bytes>, AllocError>
         ensures { IfOk result (λ file. file ≡ self.now) }
     {
-        match &self.standing {
-            Standing::File(file) => copy_of(file),
-            Standing::Lines(lines) => lines.file(),
-        }
+        self.table.file()
     }
 
-    /// Whether the owner of a range is the name, or the decimal text of the UID.
-    pub(crate) fn has_owner(&self, name: &[u8], uid: Option<u32>) -> bool
+    /// Whether the owner of a range is the name, or the decimal text of the UID. By an index it takes no
+    /// pass.
+    pub fn has_owner(&self, name: &[u8], uid: Option<u32>) -> bool
         ensures { result ≡ list_any (is_owned name.now uid) (table_records subid_format self.now) }
     {
-        match &self.standing {
-            Standing::File(file) => has_owner_in(text_of(file), name, uid),
-            Standing::Lines(lines) => lines.has_owner(name, uid),
-        }
+        let Some(uid) = uid else {
+            return self.table.has(name);
+        };
+        let mut buffer = Buffer::new();
+        let number = buffer.format(uid).as_bytes();
+        self.table.has(name) || self.table.has(number)
     }
 
     /// The least start, from `min` on, of `count` IDs of which none passes `max` and none lies in a
-    /// range of any owner; none where there is no such start.
-    pub(crate) fn free_gap(
+    /// range of any owner; none where there is no such start. It takes no pass where the numbers are
+    /// known.
+    pub fn free_gap(
         &self,
         alloc: Global,
         min: u32,
@@ -161,62 +133,82 @@ impl RangeTable {
         ensures { IfOk result (λ start.
             start ≡ free_range min max count (table_records subid_format self.now)) }
     {
-        match &self.standing {
-            Standing::File(file) => gap_in(alloc, file, min, max, count),
-            Standing::Lines(lines) => lines.free_gap(alloc, min, max, count),
+        match &self.numbers {
+            Some(numbers) => Ok(numbers.free_gap(min, max, count)),
+            None => gap_in(alloc, self.table.seen()?.file(), min, max, count),
         }
     }
 
-    // Takes out what stands; the table is absent then.
-    fn take_standing(&mut self) -> Standing
-        ensures taken { file_in result ≡ self.old }
-        ensures left { self.new ≡ None }
+    /// Carries the edits out, in their order, in a pass over the lines. Where an index is wanted they are
+    /// made where the ranges stand, unless many take IDs out of ranges: then a range that is added, an
+    /// owner that gets another name, one whose ranges go, and one whose only range loses an end take no
+    /// pass. At `AllocError` some of the edits may be made, or the table is gone.
+    pub fn edit(
+        &mut self,
+        alloc: Global,
+        edits: &[Edit<SubidRecord, SubidChange>],
+    ) -> Result<(), AllocError>
+        requires { AreWritten subid_format subid_becomes edits.now }
+        ensures { OnOk result (self.new ≡ table_by subid_format subid_becomes edits.now self.old) }
     {
-        replace(&mut self.standing, Standing::File(None))
+        let open = open_edits(edits);
+        if open.is_empty() {
+            return Ok(());
+        }
+        if !self.wants_index || are_many_with_cut(open) {
+            return self.remake(alloc, open);
+        }
+        self.edit_in_place(alloc, open)
+    }
+
+    // Makes the edits in a pass over the lines. Where these stay, the table is left as it stands.
+    fn remake(
+        &mut self,
+        alloc: Global,
+        edits: &[Edit<SubidRecord, SubidChange>],
+    ) -> Result<(), AllocError>
+        requires { AreWritten subid_format subid_becomes edits.now }
+        ensures { OnOk result (self.new ≡ table_by subid_format subid_becomes edits.now self.old) }
+    {
+        if let Some(text) = remade(alloc, &self.table, edits)? {
+            self.numbers = None;
+            self.table = Table::owning(Some(text));
+        }
+        Ok(())
     }
 }
 
-// A file in the place of what stands, as lines where that does.
-fn renewed(alloc: Global, standing: Standing, file: Option<Bytes>) -> Result<Standing, AllocError>
-    ensures { IfOk result (λ renewed. file_in renewed ≡ file) }
-{
-    match standing {
-        Standing::File(_) => Ok(Standing::File(file)),
-        Standing::Lines(lines) => Ok(Standing::Lines(lines.renewed(alloc, &file)?)),
+// Whether the edits are many, and one of them takes IDs out of ranges.
+fn are_many_with_cut(edits: &[Edit<SubidRecord, SubidChange>]) -> bool {
+    edits.len() >= MANY_WITH_CUT && edits.iter().any(|edit| is_cut(edit))
+}
+
+// Whether the edit takes IDs out of ranges.
+fn is_cut(edit: &Edit<SubidRecord, SubidChange>) -> bool {
+    match edit {
+        Edit::Become(change) => matches!(change, SubidChange::Cut(_)),
+        Edit::Add(_) | Edit::AddMissing(_) | Edit::Put(_) => false,
     }
 }
 
-// The lines of what stands, which are made in two passes where it is a file.
-fn opened(alloc: Global, standing: Standing) -> Result<RangeLines, AllocError>
-    ensures { IfOk result (λ lines. lines ≡ file_in standing) }
-{
-    match standing {
-        Standing::File(file) => RangeLines::of(alloc, &file),
-        Standing::Lines(lines) => Ok(lines),
-    }
-}
-
-/// The file once more, absent where it is.
-pub(crate) fn copy_of(file: &Option<Bytes>) -> Result<Option<Bytes>, AllocError>
-    ensures { IfOk result (λ copy. copy ≡ file.now) }
-{
-    match file {
-        Some(text) => Ok(Some(text.copy()?)),
-        None => Ok(None),
-    }
-}
-
-/// The least start among the ranges of the file, as `free_gap` has it.
-pub(crate) fn gap_in(
+// The bytes of the file after the edits, where they are others.
+fn remade(
     alloc: Global,
-    file: &Option<Bytes>,
-    min: u32,
-    max: u32,
-    count: u32,
-) -> Result<Option<u32>, AllocError>
-    requires { 0 < count }
-    ensures { IfOk result (λ start.
-        start ≡ free_range min max count (table_records subid_format file.now)) }
+    table: &Table<SubidRecord>,
+    edits: &[Edit<SubidRecord, SubidChange>],
+) -> Result<Option<Bytes>, AllocError>
+    requires { AreWritten subid_format subid_becomes edits.now }
+    ensures { IfOk result (λ made. MatchOption made
+        (table_by subid_format subid_becomes edits.now table.now ≡ table.now)
+        (λ text. table_by subid_format subid_becomes edits.now table.now ≡ Some text)) }
 {
-    free_gap_in(alloc, text_of(file), min, max, count)
+    let seen = table.seen()?;
+    let Some(text) = seen.file() else {
+        return Ok(None);
+    };
+    let made = edited_ranges(alloc, text.as_slice(), edits)?;
+    if made.as_slice() == text.as_slice() {
+        return Ok(None);
+    }
+    Ok(Some(made))
 }

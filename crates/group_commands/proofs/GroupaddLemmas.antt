@@ -17,7 +17,7 @@ use Rattle.tool_answers.specs.Refusing.{IsFaultOf}
 use Rattle.table_edits.specs.declared.script.Script.{Script}
 use Rattle.table_edits.specs.SeenScript.{seen_script}
 use Rattle.table_edits.specs.Acting.{ActsBy, IsScriptOf}
-use Rattle.table_lookups.specs.Stopping.{StopsBy}
+use Rattle.table_edits.specs.Stopping.{StopsBy}
 use Rattle.table_edits.proofs.ActingLemmas.{first_some-before, first_some-behind}
 
 module _ (name : List ℕ) (request : Request) (files : Files) (settings : List Setting) where

@@ -9,7 +9,7 @@ use Rattle.account_model.specs.Text.{first_some}
 use Rattle.tool_answers.specs.declared.tool_fault.ToolFault.{ToolFault}
 use Rattle.login_defs.specs.declared.defs.Defs.{Defs}
 use Rattle.login_defs.specs.Held.{HasSettings}
-use Rattle.table_lookups.specs.Stopping.{StopsBy}
+use Rattle.table_edits.specs.Stopping.{StopsBy}
 
 -- a GID for the new group, where its name and its GID are free, by these settings
 abbrev pub IsGidFor : Request → Files → List Setting → Result ℕ ToolFault → Type 0

@@ -7,15 +7,14 @@ ghost use Rattle.account_model.specs.Text.{first_some, is_listed as stands_in};
 ghost use Rattle.account_model.specs.Values.{list_value as names_of_list};
 ghost use Rattle.tool_answers.specs.Refusing.{RefusesBy};
 ghost use Rattle.table_edits.specs.Acting.{ActsBy};
-ghost use Rattle.table_lookups.specs.Stopping.{StopsBy};
+ghost use Rattle.table_edits.specs.Stopping.{StopsBy};
 
 use account_model::Refusal;
 use acct_text::Bytes;
 use command_values::{Asked, ToolFault, check_list_name, list_value};
 use script::script_of;
 use std::alloc::{AllocError, Global};
-use table_edits::Script;
-use table_lookups::Tables;
+use table_edits::{Script, Tables};
 
 mod script;
 

@@ -10,7 +10,7 @@ ghost use Rattle.tool_answers.specs.Refusing.{RefusesBy};
 ghost use Rattle.command_values.specs.Chosen.{AddsSettings};
 ghost use Rattle.login_defs.specs.Held.{HasSettings};
 ghost use Rattle.table_edits.specs.Acting.{ActsBy};
-ghost use Rattle.table_lookups.specs.Stopping.{StopsBy};
+ghost use Rattle.table_edits.specs.Stopping.{StopsBy};
 ghost use Rattle.group_commands.specs.GroupaddGid.{GivesGid};
 
 use account_model::{IdSort, Refusal};
@@ -18,8 +18,7 @@ use acct_text::Bytes;
 use command_values::{Asked, Form, ToolFault, check_name, free_id};
 use login_defs::Defs;
 use std::alloc::{AllocError, Global};
-use table_edits::{Script, add_group};
-use table_lookups::Tables;
+use table_edits::{Script, Tables, add_group};
 
 /// The edits that make the group of the name, with the GID of `-g` or a chosen one.
 ///

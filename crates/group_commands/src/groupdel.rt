@@ -4,14 +4,13 @@ ghost use Rattle.account_model.specs.declared.refusal.Refusal.TheVariants.{Prima
 ghost use Rattle.account_model.specs.Groupdel.{groupdel, still_primary};
 ghost use Rattle.account_model.specs.Tables.{passwd_records};
 ghost use Rattle.table_edits.specs.Acting.{ActsBy};
-ghost use Rattle.table_lookups.specs.Stopping.{StopsBy};
+ghost use Rattle.table_edits.specs.Stopping.{StopsBy};
 
 use account_model::Refusal;
 use acct_text::Bytes;
 use command_values::{Asked, ToolFault};
 use std::alloc::Global;
-use table_edits::Script;
-use table_lookups::Tables;
+use table_edits::{Script, Tables};
 
 /// The script that removes the group from group and gshadow.
 ///

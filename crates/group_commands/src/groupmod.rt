@@ -8,15 +8,14 @@ ghost use Rattle.account_model.specs.Users.{group_named as group_of_name};
 ghost use Rattle.table_edits.specs.SeenScript.{seen_script};
 ghost use Rattle.table_edits.specs.Acting.{ActsBy};
 ghost use Rattle.table_edits.specs.Additions.{HasAlso};
-ghost use Rattle.table_lookups.specs.Stopping.{StopsBy};
+ghost use Rattle.table_edits.specs.Stopping.{StopsBy};
 
 use account_model::{GroupRecord, Refusal};
 use acct_text::Bytes;
 use command_values::{Asked, Form, ToolFault};
 use line_edits::{Edit, GroupAct, GshadowAct, PasswdAct, PasswdChange, PrimaryGroup};
 use std::alloc::{AllocError, Global};
-use table_edits::{Script, set_group_hash};
-use table_lookups::Tables;
+use table_edits::{Script, Tables, set_group_hash};
 
 /// The script that changes the group: the hash of `-p`, the GID of `-g`, and at last the name of
 /// `-n`, as the others find the group by the old one.

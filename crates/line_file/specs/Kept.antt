@@ -6,15 +6,8 @@ use Rattle.acct_text.specs.Bytes.{newline}
 use Rattle.acct_text.specs.Lines.{Line, file_bytes, lines_of}
 use Rattle.acct_tables.specs.declared.lines.FileLine.{FileLine}
 use Rattle.line_file.specs.declared.cell.Cell.{Cell}
-use Rattle.line_file.specs.declared.file_text.FileText.{FileText}
-use Rattle.line_file.specs.declared.file_text.FileText.TheVariants.{Lent, Own}
 use Rattle.line_file.specs.declared.patch.Patch.{Patch}
 use Rattle.line_file.specs.Cells.{cells_from}
-
--- the bytes of the file
-abbrev pub file_text : FileText → List ℕ
-file_text (Lent text) = text.now
-file_text (Own text) = text
 
 -- ---- What was put into places
 

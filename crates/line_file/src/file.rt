@@ -3,10 +3,8 @@
 ghost use Rattle.std.specs.Prelude.{◌≡◌, ◌<◌, All, IfOk, IfSome, OnErr, OnOk};
 ghost use Rattle.acct_text.specs.Lines.{file_bytes, lines_of};
 ghost use Rattle.line_file.specs.Cells.{ArePlaced, cell_at, cells_from, lines_now, text_added, texts_put};
-ghost use Rattle.line_file.specs.Kept.{file_text};
 
 use crate::cell_bytes::{most_bytes, push_lines};
-use crate::file_text::FileText;
 use crate::line_at::line_at;
 use crate::patch::{Patch, added_cell, cell_of, put_at, put_texts};
 use crate::{Cell, Cells};
@@ -18,9 +16,9 @@ use std::marker::Model;
 
 /// The lines of a file, each in its place, the offset of its first byte in the file, with the texts that
 /// stand there now. Contracts see the list of what stands in each place.
-pub struct LineFile<'a> {
+pub struct LineFile {
     // the file's bytes, which never change
-    text: FileText<'a>,
+    text: Bytes,
     // what was put into the places of its lines
     patched: IndexMap<usize, Patch>,
     // the texts of each added line; the first has the place behind the last byte of the file
@@ -29,8 +27,8 @@ pub struct LineFile<'a> {
     are_ended: bool,
 }
 
-// One call for a text that may be lent, a map and many texts.
-impl<'a> Drop for LineFile<'a> {
+// One call for a text, a map and many texts.
+impl Drop for LineFile {
     fn drop(self) {
         let LineFile {
             text: _,
@@ -41,37 +39,23 @@ impl<'a> Drop for LineFile<'a> {
     }
 }
 
-impl<'a> Model for LineFile<'a> {
+impl Model for LineFile {
     ghost use Rattle.std.specs.Prelude.{List, map};
     ghost use Rattle.std.specs.Vec.{vec_items};
     ghost use Rattle.line_file.specs.declared.cell.Cell.{Cell};
-    ghost use Rattle.line_file.specs.Kept.{cells_kept, file_text, patches_of};
+    ghost use Rattle.line_file.specs.Kept.{cells_kept, patches_of};
 
     ghost Value = { List Cell };
 
-    ghost view = { λ f. cells_kept (file_text f.text) f.are_ended (patches_of f.patched)
+    ghost view = { λ f. cells_kept f.text f.are_ended (patches_of f.patched)
         (map vec_items f.added.items) };
 }
 
-impl<'a> LineFile<'a> {
+impl LineFile {
     /// The lines of a file with these bytes. It takes no memory; that of later edits comes from this
     /// allocator.
-    pub fn of(alloc: Global, text: &'a [u8]) -> Self
-        ensures { result ≡ cells_from 0 (lines_of text.now) }
-    {
-        LineFile::of_text(alloc, FileText::Lent(text))
-    }
-
-    /// The lines of a file with these bytes, which they don't borrow: they have a copy.
-    pub fn copied(alloc: Global, text: &[u8]) -> Result<LineFile<'static>, AllocError>
-        ensures { IfOk result (λ file. file ≡ cells_from 0 (lines_of text.now)) }
-    {
-        Ok(LineFile::of_text(alloc, FileText::Own(Bytes::of(alloc, text)?)))
-    }
-
-    // The lines of a file.
-    fn of_text(alloc: Global, text: FileText<'a>) -> Self
-        ensures { result ≡ cells_from 0 (lines_of (file_text text.entry)) }
+    pub fn of(alloc: Global, text: Bytes) -> Self
+        ensures { result ≡ cells_from 0 (lines_of text) }
     {
         LineFile {
             text,

@@ -10,7 +10,6 @@ mod cell;
 mod cell_bytes;
 mod cells;
 mod file;
-mod file_text;
 mod line_at;
 mod patch;
 

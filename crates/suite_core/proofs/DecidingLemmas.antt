@@ -21,8 +21,7 @@ use Rattle.account_model.specs.declared.tool.Tool.{Tool}
 use Rattle.account_model.specs.Text.{first_some}
 use Rattle.account_model.specs.Action.{Action, Made, outcome_of}
 use Rattle.account_model.specs.Batch.{LineRefusal, Written, batch, ensures, written_by}
-use Rattle.account_model.proofs.BatchLaws.{outcome-made}
-use Rattle.account_model.proofs.DeedLaws.{batch-stands, changes-is, files-stand}
+use Rattle.account_model.proofs.DeedLaws.{batch-stands, changes-is}
 use Rattle.account_model.specs.Change.{action_of}
 use Rattle.account_model.specs.BatchLines.{line_requests}
 use Rattle.account_model.specs.Settings.{Setting, bad_line, settings_of}
@@ -37,7 +36,8 @@ use Rattle.login_defs.specs.Faults.{file_fault}
 use Rattle.tool_answers.specs.declared.decision.Decision.{Decision}
 use Rattle.tool_answers.specs.declared.decision.Decision.TheVariants.{Change as DecidesChange, Same as DecidesSame, Refuse, RefuseLine}
 use Rattle.tool_answers.specs.Decisions.{decision_by, decision_of, decision_of_lines, line_refusal_output, refusal_output, written_output}
-use Rattle.batch_commands.specs.Deciding.{command_decision}
+use Rattle.suite_tools.proofs.CarryLemmas.{made-stands}
+use Rattle.suite_tools.specs.Deciding.{command_decision}
 use Rattle.commit_steps.proofs.WithTables.{makes-change, with-changed}
 use Rattle.suite_answers.specs.declared.cause.Cause.TheVariants.{BadSetting}
 use Rattle.suite_answers.specs.declared.answer.Answer.{Answer}
@@ -183,13 +183,6 @@ module _ (old new : Contents)
           else with_new_table table (new table) (changed_among tables old new)) ≡ []
       by-test rest true same = rest same
       by-test rest false same = absurd (cc same)
-
--- what a tool made has each table where it stood
-made-stands : (action : Action) (files : Files) (made : Made) → outcome_of action files ≡ Ok made →
-    (table : Tab) → is_some (table_of made.files table) ≡ is_some (table_of files table)
-made-stands action files made is table =
-    subst (λ (one : Made). is_some (table_of one.files table) ≡ is_some (table_of files table))
-    (outcome-made action files made is).makes (files-stand action.script files table)
 
 -- ---- The answer
 

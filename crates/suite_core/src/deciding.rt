@@ -1,5 +1,5 @@
 // What the tools of the suite answer on the files that were loaded. Which tool that is, or which
-// tools, `batch_commands` tells.
+// tools, `suite_tools` tells.
 ghost use Rattle.std.specs.Prelude.{◌≡◌, ◌≤◌, IfOk, IfSome, length};
 ghost use Rattle.std.specs.Result.{result_err};
 ghost use Rattle.std.specs.Option.{option_copied};
@@ -13,7 +13,7 @@ ghost use Rattle.suite_core.specs.Deciding.{AnswersDecision, QuestionDecides, ba
 
 use acct_outside::Name;
 use acct_text::{Bytes, Files, NewTables, TABLE_LIMIT, Tab};
-use batch_commands::{Decision, Output};
+use suite_tools::{Decision, Output};
 use login_defs::{Defs, DefsFault};
 use std::alloc::{AllocError, Global};
 use suite_answers::{Answer, Cause, Outcome, Which};
@@ -73,7 +73,7 @@ fn decide_command(
     ensures { IfOk result (QuestionDecides asked.now settings.now files.now) }
 {
     let day = asked.day();
-    batch_commands::decide(alloc, asked.parsed(), asked.input(), files, settings, day)
+    suite_tools::decide(alloc, asked.parsed(), asked.input(), files, settings, day)
 }
 
 // The answer to what the command decides.

@@ -1,6 +1,6 @@
 //! The tools as one suite, and the top call.
 //!
-//! `Suite` decides each command by `batch_commands`. `run_suite` reads the words and carries out
+//! `Suite` decides each command by `suite_tools`. `run_suite` reads the words and carries out
 //! what they ask for; a `Session` of these tools can also be turned call by call.
 #![tactic(auto)]
 

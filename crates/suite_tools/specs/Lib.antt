@@ -1,1 +1,3 @@
-pub mod Decided
+pub mod Carrying
+pub mod Deciding
+pub mod Writing

@@ -3,7 +3,7 @@
 ghost use Rattle.std.specs.Prelude.{◌≡◌, ◌≤◌, false, length, IfOk};
 ghost use Rattle.acct_text.specs.Limits.{table_limit};
 ghost use Rattle.login_defs.specs.Held.{IsHeld};
-ghost use Rattle.suite_tools.specs.Decided.{ActsUnder, ReportsUnder, asking_with, looks_through};
+ghost use Rattle.suite_tools.specs.Carrying.{ActsUnder, ReportsUnder, looks_through};
 
 use account_model::Tool;
 use aging_commands::chage::{chage, chage_report};
@@ -15,8 +15,7 @@ use group_commands::groupdel::groupdel;
 use group_commands::groupmod::groupmod;
 use login_defs::Defs;
 use std::alloc::{AllocError, Global};
-use table_edits::{Report, Script};
-use table_lookups::Tables;
+use table_edits::{Report, Script, Tables};
 use tool_answers::ToolFault;
 use user_changes::usermod;
 use user_creation::{useradd, useradd_report};
@@ -34,7 +33,7 @@ pub(crate) fn script_of(
     requires small { length input.now ≤ table_limit }
     requires held { IsHeld defs.now }
     requires scripted { looks_through asked.now.tool ≡ false }
-    ensures { ActsUnder defs.now day (asking_with asked.now input.now) tables.now result }
+    ensures { ActsUnder defs.now day asked.now input.now tables.now result }
 {
     match asked.tool() {
         Tool::Useradd => useradd(alloc, asked, tables, defs, day),
@@ -46,8 +45,8 @@ pub(crate) fn script_of(
         Tool::Gpasswd => gpasswd(alloc, asked, tables),
         Tool::Chage => chage(alloc, asked, tables),
         Tool::Chpasswd => chpasswd(alloc, input, tables, day),
-        // A batch does nothing by itself: its lines are decided one by one, above this crate. The
-        // other three don't come here.
+        // A batch does nothing by itself: its lines are carried out one by one. The other three don't
+        // come here.
         Tool::Batch | Tool::Pwck | Tool::Grpck | Tool::Getsubids => Ok(Script::new(alloc)),
     }
 }

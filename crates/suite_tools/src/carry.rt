@@ -1,10 +1,8 @@
-// What a line of a batch does with tables that are carried from line to line.
-ghost use Rattle.std.specs.Prelude.{◌≡◌, ◌≤◌, true};
-ghost use Rattle.acct_text.specs.Limits.{last_day};
-ghost use Rattle.account_model.specs.Words.{is_for_lines};
+// What a command or a line of a batch does with the tables.
+ghost use Rattle.std.specs.Prelude.{◌≡◌, ◌≤◌, false, length};
+ghost use Rattle.acct_text.specs.Limits.{last_day, table_limit};
 ghost use Rattle.login_defs.specs.Held.{IsHeld};
-ghost use Rattle.option_words.specs.Parsed.{request_in};
-ghost use Rattle.suite_tools.specs.Decided.{CarriesUnder};
+ghost use Rattle.suite_tools.specs.Carrying.{CarriesUnder, looks_through};
 
 use crate::Output;
 use crate::answer::{report_of, script_of};
@@ -12,32 +10,31 @@ use account_model::tools_are_written;
 use carried_tables::CarriedTables;
 use command_values::Asked;
 use login_defs::Defs;
-use option_words::Parsed;
 use std::alloc::Global;
-use table_lookups::Tables;
+use table_edits::Tables;
 use tool_answers::ToolFault;
 
-/// Carries out what a line of a batch asks for on the tables, by the settings and the day, in days since
-/// 1970-01-01, and gives what its tool prints.
+/// Carries out what is asked for on the tables, by the input, the settings and the day, in days
+/// since 1970-01-01, and gives what the tool prints.
 ///
-/// At `Refused` the tool refuses, and the tables are as before. At `Memory` a part of the line may be
-/// carried out.
-pub fn carry_out(
+/// At `Refused` the tool refuses, and the tables are as before. At `Memory` a part may be carried out.
+pub(crate) fn carry_out(
     alloc: Global,
-    line: &Parsed,
+    asked: &Asked,
+    input: &[u8],
     tables: &mut CarriedTables,
     defs: &Defs,
     day: u32,
 ) -> Result<Output, ToolFault>
+    requires small { length input.now ≤ table_limit }
     requires held { IsHeld defs.now }
     requires in_time { day ≤ last_day }
-    requires for_lines { is_for_lines line.now.tool ≡ true }
-    ensures { CarriesUnder defs.now day (request_in line.now) tables.old tables.new result }
+    requires scripted { looks_through asked.now.tool ≡ false }
+    ensures { CarriesUnder defs.now day asked.now input.now tables.old tables.new result }
 {
-    let asked = Asked::of(line);
-    let seen = Tables::carried(tables);
-    let script = script_of(alloc, &asked, b"", &seen, defs, day)?;
-    let report = report_of(alloc, &asked, &seen, defs, &script)?;
+    let seen = Tables::of(tables);
+    let script = script_of(alloc, asked, input, &seen, defs, day)?;
+    let report = report_of(alloc, asked, &seen, defs, &script)?;
     tools_are_written();
-    table_edits::carry_out(alloc, line.tool, tables, &script, report)
+    table_edits::carry_out(alloc, asked.tool(), tables, &script, report)
 }

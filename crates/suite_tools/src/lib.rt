@@ -1,30 +1,20 @@
-//! The tools behind one call: what a command decides on the tables, by its request, the settings of
-//! login.defs(5) and the day. A batch, whose lines are commands of their own, is decided above.
+//! What a command decides, a batch of commands too: all tools behind one call, below the session.
 //!
-//! `ToolRequest` is what was asked for, and `decide` answers it. A tool is a function of a crate below,
-//! from request, tables, settings and day to the script of its edits, with a report where it has one:
-//! `answer` picks it, by the one match over `Tool`. One that looks through whole tables decides by
-//! itself.
+//! `decide` picks a batch, a report or another tool (`dispatch`). A report decides by itself, from whole
+//! tables. Any other command is carried out (`carry`) on the six tables, with the indices that pay
+//! (`opening`), and those that differ then are its change (`change`). A batch does so line by line
+//! (`lines`), each on what those before it have written (`written`). What is carried out is the script
+//! of edits that the tool makes from request, tables, settings and day, beside its report: `answer`
+//! asks the tool for both.
 #![tactic(auto)]
 
 mod answer;
 mod carry;
+mod change;
 mod dispatch;
-mod request;
+mod lines;
+mod opening;
+mod written;
 
-pub use carry::carry_out;
 pub use dispatch::decide;
-pub use request::ToolRequest;
 pub use tool_answers::{Decision, Output};
-
-/// What a command asks groupadd(8), groupmod(8), groupdel(8) or gpasswd(1) for.
-pub type GroupRequest<'a> = ToolRequest<'a>;
-
-/// What a command asks useradd(8), usermod(8) or userdel(8) for.
-pub type UserRequest<'a> = ToolRequest<'a>;
-
-/// What a command asks chage(1) or chpasswd(8) for.
-pub type AgingRequest<'a> = ToolRequest<'a>;
-
-/// What a command asks pwck(8), grpck(8) or getsubids(1) for.
-pub type CheckRequest<'a> = ToolRequest<'a>;

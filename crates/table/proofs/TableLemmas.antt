@@ -1,28 +1,37 @@
--- Claims: of a table that is there, the lines that are kept are those of its file (`kept-of_file`), and
--- their records those of the file (`kept-records`); and edits of the lines are those of the file
--- (`kept-edited`). Way: the file is what the lines make.
-use Rattle.std.proofs.Common.{◌≡◌, ◌∙◌, ℕ, List, sym, ap, subst}
-use Rattle.std.specs.Prelude.{Option, Some, IfSome, option_map}
+-- Claims: of a table with an index, the lines are those of its file (`kept-of_file`), and their records
+-- those of the file (`kept-records`); and edits of the lines are those of the file (`kept-edited`). No
+-- edit leaves a table (`no-edit`). Way: the file is what the lines make.
+use Rattle.std.proofs.Common.{◌≡◌, ◌∙◌, ℕ, List, [], refl, sym, ap, subst}
+use Rattle.std.specs.Prelude.{Option, Some, None}
 use Rattle.acct_text.specs.Lines.{file_bytes}
+use Rattle.acct_text.proofs.LinesLaws.{lines_of-are}
 use Rattle.account_model.specs.Edits.{Edit, edited_by}
 use Rattle.account_model.specs.Format.{Format, records_of}
 use Rattle.account_model.specs.Tables.{table_after, table_records}
 use Rattle.acct_tables.specs.SeenLines.{AreOfFile}
 use Rattle.line_file.specs.Cells.{lines_now}
 use Rattle.line_file.specs.declared.cell.Cell.{Cell}
+use Rattle.table.specs.Standing.{IsOfFile, file_in}
+use Rattle.table.specs.declared.table.Standing.{Standing}
+use Rattle.table.specs.declared.table.Standing.TheVariants.{Indexed}
 
-module _ (kept : Option (List Cell)) (cells : List Cell) (is : kept ≡ Some cells)
-    (of_file : IfSome kept (λ cells. AreOfFile (lines_now cells))) where
+-- the table after no edit
+pub no-edit :
+    {R : Type 0} (format : Format R) (file : Option (List ℕ)) → file ≡ table_after format [] file
+no-edit format None = refl
+no-edit format (Some text) = ap Some (sym (lines_of-are text).joined)
+
+module _ (kept : Standing (List Cell)) (cells : List Cell) (is : kept ≡ Indexed cells)
+    (of_file : IsOfFile kept) where
   -- the lines are those of a file
   pub kept-of_file : AreOfFile (lines_now cells)
-  kept-of_file = subst (λ kept. IfSome kept (λ cells. AreOfFile (lines_now cells))) is of_file
+  kept-of_file = subst IsOfFile is of_file
 
   module _ {R : Type 0} (format : Format R) (file : Option (List ℕ))
-      (makes : option_map (λ cells. file_bytes (lines_now cells)) kept ≡ file) where
+      (makes : file_in kept ≡ file) where
     -- the file is what they make
     kept-file : Some (file_bytes (lines_now cells)) ≡ file
-    kept-file =
-        ap (option_map (λ (cells : List Cell). file_bytes (lines_now cells))) (sym is) ∙ makes
+    kept-file = ap file_in (sym is) ∙ makes
 
     -- the records are those of the file
     pub kept-records : records_of format (lines_now cells) ≡ table_records format file

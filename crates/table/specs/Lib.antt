@@ -1,3 +1,4 @@
+pub mod Standing
 pub mod Accepting
 pub mod TablesOfLines
 pub mod TableEdits

@@ -57,5 +57,5 @@ fn renewed<R: KeyedRecord + Drop>(
         return Ok(cells);
     }
     let text = cells.text()?;
-    KeyedCells::of(alloc, text.as_slice())
+    KeyedCells::of(alloc, text)
 }

@@ -28,7 +28,7 @@ use std::marker::{Model, PhantomData};
 /// The lines of a table of the records R, with an index of the places where records may have a key.
 /// Contracts see what stands in each place.
 pub(crate) struct KeyedCells<R: KeyedRecord> {
-    pub(crate) file: LineFile<'static>,
+    pub(crate) file: LineFile,
     pub(crate) keys: KeyPlaces,
     // so many bytes had the file
     bytes: usize,
@@ -65,15 +65,16 @@ impl<R: KeyedRecord> Model for KeyedCells<R> {
 
 impl<R: KeyedRecord + Drop> KeyedCells<R> {
     /// The lines of a file with these bytes, in one pass.
-    pub(crate) fn of(alloc: Global, text: &[u8]) -> Result<Self, AllocError>
-        ensures { IfOk result (λ cells. cells ≡ cells_from 0 (lines_of text.now)) }
+    pub(crate) fn of(alloc: Global, text: Bytes) -> Result<Self, AllocError>
+        ensures { IfOk result (λ cells. cells ≡ cells_from 0 (lines_of text)) }
     {
-        let file = LineFile::copied(alloc, text)?;
-        let keys = gathered::<R>(alloc, &file, text.len())?;
+        let bytes = text.as_slice().len();
+        let file = LineFile::of(alloc, text);
+        let keys = gathered::<R>(alloc, &file, bytes)?;
         Ok(KeyedCells {
             file,
             keys,
-            bytes: text.len(),
+            bytes,
             worn: 0,
             record: PhantomData,
         })

@@ -1,18 +1,21 @@
 //! A table that commands carry from one to the next, what is found in it, and edits of it (passwd(5),
 //! shadow(5), group(5), gshadow(5), subuid(5), subgid(5)).
 //!
-//! A line is known by its place (`line_file`), and an index tells for a key the places where records may
-//! have it (`record_keys`, gathered by `gathering`). A look-up or an edit reads the texts in the places
+//! A `Table` is its file, of which every call takes a pass (`file_records`), until an index is asked for.
+//! Then a line is known by its place (`line_file`), and the index tells for a key the places where records
+//! may have it (`record_keys`, gathered by `gathering`). A look-up or an edit reads the texts in the places
 //! of its key, one after another (`texts_there`): they are few, and no other text is a record with the
 //! key. `keyed_cells` looks up by names and tests (`named_texts`), `cell_edits` puts new texts
-//! (`new_texts`), and `single` asks whether an edit touches a record whose name has several. A `Table`
-//! has all this for the file of a table, or for none; `edited` makes its lines anew now and then.
+//! (`new_texts`), and `single` asks whether an edit touches a record whose name has several. `edited`
+//! makes the lines anew now and then.
 //!
 //! `search` finds the first record of a file that passes a test.
 #![tactic(auto)]
 
 mod cell_edits;
 mod edited;
+mod file_records;
+mod files;
 mod gathering;
 mod keyed_cells;
 mod named_texts;
@@ -22,5 +25,6 @@ mod single;
 mod table;
 mod texts_there;
 
+pub use files::{SeenFile, copy_of};
 pub use search::{OfGid, OfUid, RecordTest, first_passing, text_of};
 pub use table::Table;

@@ -61,8 +61,8 @@ pub(crate) fn all_named<R: TableRecord + Drop>(
     Ok(found)
 }
 
-// Adds the record that the text is, if it is one and has the name.
-fn push_named<R: TableRecord + Drop>(
+/// Adds the record that the text is, if it is one and has the name.
+pub(crate) fn push_named<R: TableRecord + Drop>(
     alloc: Global,
     found: &mut Vec<R>,
     text: &[u8],

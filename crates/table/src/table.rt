@@ -3,108 +3,144 @@
 ghost use Rattle.std.specs.Prelude.{◌≡◌, None, filter, find, is_some, nat_le, IfOk, OnOk};
 ghost use Rattle.account_model.specs.Format.{count_named, find_named, has_named, is_named};
 ghost use Rattle.account_model.specs.Tables.{table_records};
+ghost use Rattle.table.specs.Standing.{IsOfFile, file_in, file_seen};
 ghost use Rattle.table.specs.TableEdits.{AreWritten, multiple_by, table_by};
 
 use crate::edited::edited;
+use crate::file_records::{edited_file, named_in};
+use crate::files::SeenFile;
 use crate::keyed_cells::KeyedCells;
-use crate::search::RecordTest;
+use crate::search::{RecordTest, first_passing, text_of};
+use acct_tables::{MANY, find_record, has_record, has_several_records};
 use acct_text::Bytes;
-use line_edits::Edit;
+use line_edits::{Edit, first_multiple};
 use record_keys::KeyedRecord;
 use std::alloc::{AllocError, Global};
 use std::marker::Model;
 use std::mem::replace;
 
-/// A table of the records R. Look-ups and edits by name take no pass over its lines, nor do others
-/// that have a key. Contracts see it as the bytes of its file, and none where the file is absent.
+/// How a table stands.
+#[derive(Drop)]
+pub(crate) enum Standing<C> {
+    /// As its file, which is absent where there is none.
+    File(Option<Bytes>),
+    /// As lines with an index.
+    Indexed(C),
+}
+
+/// A table of the records R: its file, of which each call takes a pass, or its lines with an index, once
+/// that is asked for. Then look-ups and edits by name take no pass over the lines, nor do others that
+/// have a key. Contracts see it as the bytes of its file, and none where the file is absent.
 pub struct Table<R: KeyedRecord> {
-    cells: Option<KeyedCells<R>>,
+    standing: Standing<KeyedCells<R>>,
 }
 
 // One call for what may be there, so that who holds tables has few ways through them.
 impl<R: KeyedRecord + Drop> Drop for Table<R> {
     fn drop(self) {
-        let Table { cells: _ } = self;
+        let Table { standing: _ } = self;
     }
 }
 
 impl<R: KeyedRecord> Model for Table<R> {
-    ghost use Rattle.std.specs.Prelude.{ℕ, List, Option, option_map, IfSome};
-    ghost use Rattle.acct_text.specs.Lines.{file_bytes};
-    ghost use Rattle.acct_tables.specs.SeenLines.{AreOfFile};
-    ghost use Rattle.line_file.specs.Cells.{lines_now};
+    ghost use Rattle.std.specs.Prelude.{ℕ, List, Option};
+    ghost use Rattle.table.specs.Standing.{IsOfFile, file_in};
 
     ghost Value = { Option (List ℕ) };
 
-    ghost view = { λ table. option_map (λ cells. file_bytes (lines_now cells)) table.cells };
+    ghost view = { λ table. file_in table.standing };
 
-    ghost invariant = { λ table. IfSome table.cells (λ cells. AreOfFile (lines_now cells)) };
+    ghost invariant = { λ table. IsOfFile table.standing };
 }
 
 impl<R: KeyedRecord + Drop> Table<R> {
-    /// The table of no file.
-    pub fn absent() -> Self
-        ensures { result ≡ None }
+    /// The table of this file, which is absent where there is none.
+    pub fn owning(file: Option<Bytes>) -> Self
+        ensures { result ≡ file }
     {
-        Table { cells: None }
+        Table {
+            standing: Standing::File(file),
+        }
     }
 
-    /// The table of the file, in one pass.
-    pub fn of(alloc: Global, file: &Option<Bytes>) -> Result<Self, AllocError>
-        ensures { IfOk result (λ table. table ≡ file.now) }
+    /// Makes the index, in one pass, unless there is one. At `AllocError` the table is gone.
+    pub fn index(&mut self, alloc: Global) -> Result<(), AllocError>
+        ensures { OnOk result (self.new ≡ self.old) }
     {
-        match file {
-            Some(text) => {
-                let cells = KeyedCells::of(alloc, text.as_slice())?;
-                Ok(Table { cells: Some(cells) })
-            }
-            None => Ok(Table::absent()),
-        }
+        let indexed = indexed(alloc, self.take_standing())?;
+        self.standing = indexed;
+        Ok(())
     }
 
     /// Whether there is a file.
     pub fn is_there(&self) -> bool
         ensures { result ≡ is_some self.now }
     {
-        self.cells.is_some()
+        match &self.standing {
+            Standing::File(file) => file.is_some(),
+            Standing::Indexed(_) => true,
+        }
+    }
+
+    /// The file: lent where it is kept, or made in a pass over the lines.
+    pub fn seen(&self) -> Result<SeenFile<'_>, AllocError>
+        ensures { IfOk result (λ seen. file_seen seen ≡ self.now) }
+    {
+        match &self.standing {
+            Standing::File(file) => Ok(SeenFile::Lent(file)),
+            Standing::Indexed(cells) => Ok(SeenFile::Made(Some(cells.text()?))),
+        }
     }
 
     /// The bytes of the file; none where it is absent.
     pub fn file(&self) -> Result<Option<Bytes>, AllocError>
         ensures { IfOk result (λ file. file ≡ self.now) }
     {
-        match &self.cells {
-            Some(cells) => Ok(Some(cells.text()?)),
-            None => Ok(None),
+        match &self.standing {
+            Standing::File(Some(text)) => Ok(Some(text.copy()?)),
+            Standing::File(None) => Ok(None),
+            Standing::Indexed(cells) => Ok(Some(cells.text()?)),
         }
     }
 
-    /// Takes the bytes of the file out, and lets the rest go; none where it is absent.
+    /// Takes the bytes of the file out, and lets the rest go; none where it is absent. They are made in a
+    /// pass over the lines where the table has an index.
     pub fn take_file(&mut self) -> Result<Option<Bytes>, AllocError>
         ensures { IfOk result (λ file. file ≡ self.old) }
     {
-        let taken = replace(self, Table::absent());
-        taken.file()
+        match self.take_standing() {
+            Standing::File(file) => Ok(file),
+            Standing::Indexed(cells) => Ok(Some(cells.text()?)),
+        }
     }
 
-    /// The first record that has the name. It takes no pass over the lines.
+    // Takes out what stands; the table is absent then.
+    fn take_standing(&mut self) -> Standing<KeyedCells<R>>
+        ensures taken { file_in result ≡ self.old }
+        ensures of_file { IsOfFile result }
+        ensures left { self.new ≡ None }
+    {
+        replace(&mut self.standing, Standing::File(None))
+    }
+
+    /// The first record that has the name. By an index it takes no pass over the lines.
     pub fn find(&self, alloc: Global, name: &[u8]) -> Result<Option<R>, AllocError>
         ensures { IfOk result (λ found.
             found ≡ find_named R.format name.now (table_records R.format self.now)) }
     {
-        match &self.cells {
-            Some(cells) => cells.find(alloc, name),
-            None => Ok(None),
+        match &self.standing {
+            Standing::File(file) => find_record(alloc, text_of(file), name),
+            Standing::Indexed(cells) => cells.find(alloc, name),
         }
     }
 
-    /// Whether a record has the name. It takes no pass over the lines, and no memory.
+    /// Whether a record has the name. It takes no memory, and by an index no pass over the lines.
     pub fn has(&self, name: &[u8]) -> bool
         ensures { result ≡ has_named R.format name.now (table_records R.format self.now) }
     {
-        match &self.cells {
-            Some(cells) => cells.has(name),
-            None => false,
+        match &self.standing {
+            Standing::File(file) => has_record::<R>(text_of(file), name),
+            Standing::Indexed(cells) => cells.has(name),
         }
     }
 
@@ -113,25 +149,25 @@ impl<R: KeyedRecord + Drop> Table<R> {
         ensures { IfOk result (λ are. are ≡ nat_le 2
             (count_named R.format name.now (table_records R.format self.now))) }
     {
-        match &self.cells {
-            Some(cells) => cells.has_several(alloc, name),
-            None => Ok(false),
+        match &self.standing {
+            Standing::File(file) => Ok(has_several_records::<R>(text_of(file), name)),
+            Standing::Indexed(cells) => cells.has_several(alloc, name),
         }
     }
 
-    /// The records of the name, in the order of lines. It takes no pass over them.
+    /// The records of the name, in the order of lines. By an index it takes no pass over them.
     pub fn all_named(&self, alloc: Global, name: &[u8]) -> Result<Vec<R>, AllocError>
         ensures { IfOk result (λ found. found.items
             ≡ filter (is_named R.format name.now) (table_records R.format self.now)) }
     {
-        match &self.cells {
-            Some(cells) => cells.all_named(alloc, name),
-            None => Ok(Vec::new(alloc)),
+        match &self.standing {
+            Standing::File(file) => named_in(alloc, file, name),
+            Standing::Indexed(cells) => cells.all_named(alloc, name),
         }
     }
 
-    /// The first record that passes the test. Where the test has a key, it takes no pass over the
-    /// lines.
+    /// The first record that passes the test. By an index it takes no pass over the lines where the test
+    /// has a key.
     pub fn first_passing<T: RecordTest<R>>(
         &self,
         alloc: Global,
@@ -140,13 +176,14 @@ impl<R: KeyedRecord + Drop> Table<R> {
         ensures { IfOk result (λ found.
             found ≡ find (T.accepts test.now) (table_records R.format self.now)) }
     {
-        match &self.cells {
-            Some(cells) => cells.first_passing(alloc, test),
-            None => Ok(None),
+        match &self.standing {
+            Standing::File(file) => first_passing(alloc, file, test),
+            Standing::Indexed(cells) => cells.first_passing(alloc, test),
         }
     }
 
-    /// The name of the first record that the edits touch and whose name has several records.
+    /// The name of the first record that the edits touch and whose name has several records. By an index
+    /// it takes no pass over the lines where each edit has a key.
     pub fn first_multiple(
         &self,
         alloc: Global,
@@ -156,23 +193,72 @@ impl<R: KeyedRecord + Drop> Table<R> {
         ensures { IfOk result (λ name. name ≡
             multiple_by R.format R.becomes edits.now (table_records R.format self.now)) }
     {
-        match &self.cells {
-            Some(cells) => cells.first_multiple(alloc, edits),
-            None => Ok(None),
+        match &self.standing {
+            Standing::File(file) => first_multiple(alloc, text_of(file), edits),
+            Standing::Indexed(cells) => cells.first_multiple(alloc, edits),
         }
     }
 
-    /// Carries the edits out, in their order. One that has a key, or concerns records of one name, takes
-    /// no pass over the lines. At `AllocError` the table is gone.
+    /// Carries the edits out, in their order. By an index those that have a key, or concern records of
+    /// one name, take no pass over the lines; for `MANY` edits it is made. At `AllocError` the table is
+    /// gone.
     pub fn edit(&mut self, alloc: Global, edits: &[Edit<R, R::Change>]) -> Result<(), AllocError>
         requires { AreWritten R.format R.becomes edits.now }
         ensures { OnOk result (self.new ≡ table_by R.format R.becomes edits.now self.old) }
     {
-        let Some(cells) = self.cells.take() else {
+        if edits.is_empty() {
             return Ok(());
-        };
-        let edited = edited(alloc, cells, edits)?;
-        self.cells = Some(edited);
+        }
+        if edits.len() >= MANY {
+            self.index(alloc)?;
+        }
+        self.edit_standing(alloc, edits)
+    }
+
+    // The same of a table as it stands.
+    fn edit_standing(
+        &mut self,
+        alloc: Global,
+        edits: &[Edit<R, R::Change>],
+    ) -> Result<(), AllocError>
+        requires { AreWritten R.format R.becomes edits.now }
+        ensures { OnOk result (self.new ≡ table_by R.format R.becomes edits.now self.old) }
+    {
+        let edited = edited_standing(alloc, self.take_standing(), edits)?;
+        self.standing = edited;
         Ok(())
+    }
+}
+
+// What stands, with an index.
+fn indexed<R: KeyedRecord + Drop>(
+    alloc: Global,
+    standing: Standing<KeyedCells<R>>,
+) -> Result<Standing<KeyedCells<R>>, AllocError>
+    requires { IsOfFile standing }
+    ensures same { IfOk result (λ indexed. file_in indexed ≡ file_in standing) }
+    ensures of_file { IfOk result IsOfFile }
+{
+    match standing {
+        Standing::File(Some(text)) => Ok(Standing::Indexed(KeyedCells::of(alloc, text)?)),
+        other => Ok(other),
+    }
+}
+
+// What stands after the edits.
+fn edited_standing<R: KeyedRecord + Drop>(
+    alloc: Global,
+    standing: Standing<KeyedCells<R>>,
+    edits: &[Edit<R, R::Change>],
+) -> Result<Standing<KeyedCells<R>>, AllocError>
+    requires of_file { IsOfFile standing }
+    requires written { AreWritten R.format R.becomes edits.now }
+    ensures edited { IfOk result (λ edited.
+        file_in edited ≡ table_by R.format R.becomes edits.now (file_in standing)) }
+    ensures of_file { IfOk result IsOfFile }
+{
+    match standing {
+        Standing::File(file) => Ok(Standing::File(edited_file(alloc, file, edits)?)),
+        Standing::Indexed(cells) => Ok(Standing::Indexed(edited(alloc, cells, edits)?)),
     }
 }

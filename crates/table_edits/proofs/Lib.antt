@@ -1,4 +1,5 @@
 pub mod ActingLemmas
-pub mod ListedFile
+pub mod GroupNames
 pub mod IdleLemmas
-pub mod CheckedTables
+pub mod OtherUsers
+pub mod StoppingLemmas

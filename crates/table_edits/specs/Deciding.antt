@@ -1,27 +1,16 @@
--- What a command has to decide by the script of its tool, and what it has to do with tables that are
--- carried from command to command ("EXIT VALUES" of each page).
+-- What a command has to do with the tables by the script of its tool ("EXIT VALUES" of each page).
 use Rattle.std.specs.Prelude.{◌≡◌, ⊤, Result, Ok, Err}
 use Rattle.acct_text.specs.declared.files.Files.{Files}
 use Rattle.account_model.specs.declared.refusal.Refusal.{Refusal}
 use Rattle.account_model.specs.Action.{Action, Made, outcome_of}
 use Rattle.account_model.specs.Batch.{Written, written_by}
 use Rattle.account_model.specs.declared.tool.Tool.{Tool}
-use Rattle.tool_answers.specs.Decisions.{Decides}
-use Rattle.tool_answers.specs.declared.decision.Decision.{Decision}
 use Rattle.tool_answers.specs.declared.decision.Output.{Output}
 use Rattle.tool_answers.specs.declared.tool_fault.ToolFault.{ToolFault}
 use Rattle.tool_answers.specs.declared.tool_fault.ToolFault.TheVariants.{Refused, Memory}
 use Rattle.table_edits.specs.Acting.{IsReportOf, IsScriptOf}
 use Rattle.table_edits.specs.declared.report.Report.{Report}
 use Rattle.table_edits.specs.declared.script.Script.{Script}
-
--- the decision is that of any action with this script and this report, of which no refusal is there
-abbrev pub DecidesAs : Tool → Files → Script → Report → Decision → Type 0
-DecidesAs tool files script report decision =
-    (action : Action) → IsScriptOf action script → IsReportOf action report
-    → Decides tool files (outcome_of action files) decision
-
--- ---- Carried tables
 
 -- what is left and printed by a tool that isn't refused
 abbrev pub written_of : Tool → Result Made Refusal → Result Written Refusal

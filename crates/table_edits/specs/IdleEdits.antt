@@ -1,7 +1,9 @@
 -- Edits that leave each record of their table as it is (usermod(8), where no option is for the table;
 -- passwd(5), shadow(5)).
-use Rattle.std.specs.Prelude.{◌≡◌, List, [], ◌∷◌, None}
+use Rattle.std.specs.Prelude.{◌≡◌, ℕ, List, [], ◌∷◌, Option, None}
 use Rattle.account_model.specs.Edits.{Edit, Become, Add, AddMissing, Put, Arrange}
+use Rattle.account_model.specs.Format.{Format}
+use Rattle.account_model.specs.Tables.{table_after}
 use Rattle.line_edits.specs.declared.passwd_changes.UserFields.{UserFields}
 use Rattle.line_edits.specs.declared.shadow_changes.DaysChange.TheVariants.{Stays}
 use Rattle.line_edits.specs.declared.shadow_changes.ShadowFields.{ShadowFields}
@@ -17,6 +19,11 @@ LeavesAll (Add r) = ⊥
 LeavesAll (AddMissing r) = ⊥
 LeavesAll (Put r) = ⊥
 LeavesAll (Arrange key) = ⊥
+
+-- some edits make the same of each file as others
+abbrev pub MakeSame : {R : Type 0} → Format R → List (Edit R) → List (Edit R) → Type 0
+MakeSame format edits others =
+    (file : Option (List ℕ)) → table_after format edits file ≡ table_after format others file
 
 -- a user gets no field but a name, which may be the one that it has
 pub record SetsUserNameAlone (fields : UserFields) : Type 0 where

@@ -2,5 +2,5 @@ pub mod SeenScript
 pub mod Acting
 pub mod Additions
 pub mod Deciding
-pub mod CheckedTables
 pub mod IdleEdits
+pub mod Stopping

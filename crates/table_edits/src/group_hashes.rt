@@ -4,12 +4,11 @@ ghost use Rattle.std.specs.Prelude.{OnOk};
 ghost use Rattle.account_model.specs.Hashes.{set_group_hash as group_hash, demand_gshadow as gshadow_on_demand, make_gshadow as gshadow_line};
 ghost use Rattle.table_edits.specs.Additions.{HasAlso};
 
-use crate::Script;
+use crate::{Script, Tables};
 use acct_lines::{GroupRecord, GshadowRecord};
 use acct_text::{Bytes, Names};
 use line_edits::{Edit, GroupAct, GshadowAct};
 use std::alloc::{AllocError, Global};
-use table_lookups::Tables;
 
 /// Makes the gshadow line on demand: where gshadow lacks the group, its record goes there, and
 /// `x` into the password field of group.

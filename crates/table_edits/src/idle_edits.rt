@@ -4,9 +4,10 @@
 ghost use Rattle.std.specs.Prelude.{◌≡◌, true};
 ghost use Rattle.std.specs.List.{AllByRecursion};
 ghost use Rattle.line_edits.specs.SeenEdits.{seen_edit, seen_edits};
-ghost use Rattle.table_edits.specs.IdleEdits.{LeavesAll, LeavesRecords, SetsShadowNameAlone, SetsUserNameAlone};
+ghost use Rattle.table.specs.TableEdits.{AreWritten};
+ghost use Rattle.table_edits.specs.IdleEdits.{LeavesAll, LeavesRecords, MakeSame, SetsShadowNameAlone, SetsUserNameAlone};
 
-use crate::{GroupRecord, GshadowRecord, PasswdRecord, ShadowRecord};
+use acct_lines::{GroupRecord, GshadowRecord, PasswdRecord, ShadowRecord};
 use line_edits::{
     DaysChange, Edit, EditedRecord, GroupChange, GshadowChange, PasswdAct, PasswdChange, ShadowAct,
     ShadowChange, ShadowFields, UserFields, leaves_name,
@@ -51,6 +52,19 @@ impl IdleRecord for GshadowRecord {
     fn leaves_all(_change: &GshadowChange) -> bool {
         false
     }
+}
+
+/// The edits, and none where they surely leave each record of their table.
+pub(crate) fn without_idle<R: IdleRecord>(edits: &[Edit<R, R::Change>]) -> &[Edit<R, R::Change>]
+    requires { AreWritten R.format R.becomes edits.now }
+    ensures written { AreWritten R.format R.becomes result.now }
+    ensures same { MakeSame R.format (seen_edits R.becomes result.now)
+        (seen_edits R.becomes edits.now) }
+{
+    if leave_all_records(edits) {
+        return &edits[..0];
+    }
+    edits
 }
 
 /// Whether the edits surely leave each record of their table, and add none.

@@ -1,36 +1,43 @@
-//! What a command does to the six tables, as data: a `Script` has for each table the list of its
-//! edits (passwd(5), shadow(5), group(5), gshadow(5), subuid(5), subgid(5)).
+//! What a command looks up in the six tables and does to them (passwd(5), shadow(5), group(5),
+//! gshadow(5), subuid(5), subgid(5)).
 //!
-//! A tool builds a `Script`; `group_edits` and `user_edits` have edits that several tools make,
-//! `user_hashes` and `group_hashes` those that put a hash where it stands, with the lines of shadow and
-//! gshadow that are made on demand, and `new_groups` a group with its hash.
-//! `decide_by` decides by it: it refuses where an edit touches one of several records of a name, and
-//! else makes the new bytes of each table (`checked_tables`) whose edits aren't seen to leave all
-//! records (`idle_edits`). `carry_out` does the same (`multiple`) in tables that are carried from
-//! command to command.
+//! `Tables` are those that commands carry from one to the next, as a command looks at them: `lookups`
+//! finds records by their names, `users` and `groups` by their IDs, and `given_groups` the groups that
+//! `-g` and `-G` name; where a name is of none, the command is refused (`unknown_groups`). Where many
+//! records are asked for, whoever opens the tables makes an index of them first.
+//!
+//! A tool builds a `Script`, which has for each table the list of its edits; `group_edits` and
+//! `user_edits` have edits that several tools make, `user_hashes` and `group_hashes` those that put a
+//! hash where it stands, with the lines of shadow and gshadow that are made on demand, and `new_groups`
+//! a group with its hash.
+//! `carry_out` carries it out on the tables: it refuses where an edit touches one of several records of
+//! a name (`multiple`), and else edits them, but for a table whose edits are seen to leave all records
+//! (`idle_edits`). What a tool prints beside is its `Report`.
 #![tactic(auto)]
 
 mod carry;
-mod checked_tables;
-mod decide;
+mod given_groups;
 mod group_edits;
 mod group_hashes;
+mod groups;
 mod idle_edits;
+mod lookups;
 mod multiple;
 mod new_groups;
 mod report;
 mod script;
+mod tables;
+mod unknown_groups;
 mod user_edits;
 mod user_hashes;
+mod users;
 
-pub use account_model::{Refusal, Tool};
-pub use acct_lines::{
-    GroupRecord, GshadowRecord, PasswdRecord, ShadowRecord, SubidRecord, TableRecord,
-};
 pub use carry::carry_out;
-pub use decide::decide_by;
+pub use given_groups::{given_group, group_names};
 pub use group_hashes::{demand_gshadow, set_group_hash};
 pub use new_groups::add_group;
 pub use report::Report;
 pub use script::Script;
-pub use user_hashes::{change_user_hash, demand_indexed, demand_shadow, hash_alone};
+pub use tables::Tables;
+pub use unknown_groups::{check_given_group, check_given_groups};
+pub use user_hashes::{change_user_hash, demand_shadow, hash_alone};

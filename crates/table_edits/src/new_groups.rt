@@ -3,12 +3,11 @@ ghost use Rattle.std.specs.Prelude.{◌≡◌, IfOk, OnOk};
 ghost use Rattle.account_model.specs.NewAccount.{add_group as addition_of_group, new_group, new_gshadow};
 ghost use Rattle.table_edits.specs.Additions.{HasAlso};
 
-use crate::Script;
+use crate::{Script, Tables};
 use acct_lines::{GroupRecord, GshadowRecord};
 use acct_text::{Bytes, Names};
 use line_edits::Edit;
 use std::alloc::{AllocError, Global};
-use table_lookups::Tables;
 
 /// Makes the group, behind the other lines. The hash stands in gshadow, and without gshadow in group.
 pub fn add_group(

@@ -6,12 +6,11 @@ ghost use Rattle.account_model.specs.Records.{hash_alone as record_of_hash};
 ghost use Rattle.table_edits.specs.Additions.{HasAlso};
 ghost use Rattle.line_edits.specs.HashChanges.{hash_by};
 
-use crate::Script;
+use crate::{Script, Tables};
 use acct_lines::{PasswdRecord, ShadowRecord};
 use acct_text::Bytes;
 use line_edits::{Edit, HashChange, PasswdAct, ShadowAct};
 use std::alloc::{AllocError, Global};
-use table_lookups::{Tables, UserIndex};
 
 /// Makes the shadow line on demand: where shadow lacks the user, a record with the hash of
 /// passwd goes there, and `x` into the password field of passwd.
@@ -28,25 +27,6 @@ pub fn demand_shadow(
         return Ok(());
     }
     match tables.user_named(alloc, name)? {
-        Some(user) => make_shadow(alloc, script, &user),
-        None => Ok(()),
-    }
-}
-
-/// Makes the shadow line on demand as `demand_shadow` does, by what the index finds.
-pub fn demand_indexed(
-    alloc: Global,
-    script: &mut Script,
-    users: &UserIndex<'_>,
-    name: &[u8],
-) -> Result<(), AllocError>
-    ensures { OnOk result
-        (HasAlso (shadow_on_demand name.now users.now) script.old script.new) }
-{
-    if !users.tables().has_shadow_file() || users.shadow_named(alloc, name)?.is_some() {
-        return Ok(());
-    }
-    match users.user_named(alloc, name)? {
         Some(user) => make_shadow(alloc, script, &user),
         None => Ok(()),
     }

@@ -4,14 +4,14 @@ use line_file::LineFile;
 use std::test::Fail;
 
 // How many texts stand in the place; none where no line begins there.
-fn count_at(file: &LineFile<'_>, place: usize) -> Option<usize> {
+fn count_at(file: &LineFile, place: usize) -> Option<usize> {
     Some(file.cell(place)?.texts.len())
 }
 
 #[test]
 fn what_is_put_stands_in_the_place_of_a_line(rt: HostRuntime) -> Result<(), Fail> {
     let alloc = rt.alloc();
-    let mut file = LineFile::copied(alloc, b"a:x:1:\nb:x:2:\nc:x:3:")?;
+    let mut file = LineFile::of(alloc, Bytes::of(alloc, b"a:x:1:\nb:x:2:\nc:x:3:")?);
     assert_eq!(rt;
         file.text()?.as_slice(),
         b"a:x:1:\nb:x:2:\nc:x:3:".as_slice()

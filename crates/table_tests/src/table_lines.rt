@@ -20,7 +20,7 @@ const USERS: &[u8] =
 
 // The table of these users.
 fn users(alloc: Global) -> Result<Table<PasswdRecord>, AllocError> {
-    Table::of(alloc, &Some(Bytes::of(alloc, USERS)?))
+    Ok(Table::owning(Some(Bytes::of(alloc, USERS)?)))
 }
 
 // The UID of a user, where there is one.
@@ -31,7 +31,8 @@ fn uid_of(found: Option<PasswdRecord>) -> Option<u32> {
 #[test]
 fn records_are_found_by_name_and_by_test(rt: HostRuntime) -> Result<(), Fail> {
     let alloc = rt.alloc();
-    let table = users(alloc)?;
+    let mut table = users(alloc)?;
+    table.index(alloc)?;
     assert_eq!(rt; uid_of(table.find(alloc, b"ann")?), Some(1000));
     assert_eq!(rt; uid_of(table.find(alloc, b"eve")?), None);
     assert_eq!(rt; table.has(b"bob"), true);
@@ -81,6 +82,7 @@ fn remove(alloc: Global, table: &mut Table<PasswdRecord>, name: &[u8]) -> Result
 fn a_name_comes_and_goes_many_times(rt: HostRuntime) -> Result<(), Fail> {
     let alloc = rt.alloc();
     let mut table = users(alloc)?;
+    table.index(alloc)?;
     for _ in 0..500 {
         add(alloc, &mut table, b"eve:x:1003:100::/:")?;
         remove(alloc, &mut table, b"eve")?;

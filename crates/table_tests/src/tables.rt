@@ -1,4 +1,4 @@
-// Look-ups of names in a large group(5), which take no pass over its lines.
+// Look-ups of names in a large group(5) by an index, which take no pass over its lines.
 use acct_lines::GroupRecord;
 use acct_text::Bytes;
 use std::alloc::{AllocError, Global};
@@ -17,7 +17,9 @@ fn many_groups(alloc: Global, count: u32) -> Result<Table<GroupRecord>, AllocErr
         write!(text, "g{number}:x:{number}:\n")?;
     }
     let file = Some(Bytes::of(alloc, text.as_bytes())?);
-    Table::of(alloc, &file)
+    let mut groups = Table::owning(file);
+    groups.index(alloc)?;
+    Ok(groups)
 }
 
 #[test]

@@ -2,4 +2,3 @@ pub mod RefusalLemmas
 pub mod MeetingLemmas
 pub mod LackedLemmas
 pub mod MembershipLemmas
-pub mod GroupNames

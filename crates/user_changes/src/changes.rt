@@ -18,8 +18,7 @@ use crate::memberships::write_memberships;
 use crate::ranges::write_ranges;
 use command_values::{Asked, Form, ToolFault};
 use std::alloc::{AllocError, Global};
-use table_edits::Script;
-use table_lookups::Tables;
+use table_edits::{Script, Tables};
 
 /// The script that changes the user, on a day counted from 1970-01-01: the hash of `-p`, `-L` and
 /// `-U`, as it finds the user by the old name, and then each table once.

@@ -7,18 +7,16 @@ ghost use Rattle.account_model.specs.Request.{operand};
 ghost use Rattle.account_model.specs.Users.{uid_of};
 ghost use Rattle.account_model.specs.Usermod.{empty_hash, is_uid_taken, no_shadow, taken_name, taken_uid, unlistable_name, usermod_conflicts};
 ghost use Rattle.tool_answers.specs.Refusing.{RefusesBy};
-ghost use Rattle.table_lookups.specs.Stopping.{StopsBy};
+ghost use Rattle.table_edits.specs.Stopping.{StopsBy};
 
 use crate::changes::new_name;
 use crate::hash::{hash_of, sets_aging};
 use crate::meetings::check_meetings;
-use crate::memberships::group_names;
 use account_model::{IdSort, Refusal};
 use acct_text::Bytes;
 use command_values::{Asked, ToolFault, check_list_name, has_byte};
-use given_groups::{check_given_group, check_given_groups};
 use std::alloc::{AllocError, Global};
-use table_lookups::Tables;
+use table_edits::{Tables, check_given_group, check_given_groups, group_names};
 
 /// Refuses what is missing or taken, in this order, and else gives the user's UID. `Memory` may come
 /// at each step.

@@ -15,11 +15,9 @@ ghost use Rattle.user_changes.specs.Fields.{day_of_change, user_fields, SetsShad
 use crate::changes::new_name;
 use acct_text::Bytes;
 use command_values::{Asked, read_days, read_expiration};
-use given_groups::given_group;
 use line_edits::{DaysChange, PasswdAct, ShadowAct, ShadowFields, UserFields};
 use std::alloc::{AllocError, Global};
-use table_edits::Script;
-use table_lookups::Tables;
+use table_edits::{Script, Tables, given_group};
 
 /// Sets the fields of passwd.
 pub(crate) fn write_passwd(

@@ -12,8 +12,7 @@ use acct_text::Bytes;
 use command_values::Asked;
 use line_edits::HashChange;
 use std::alloc::{AllocError, Global};
-use table_edits::{Script, change_user_hash, demand_shadow};
-use table_lookups::Tables;
+use table_edits::{Script, Tables, change_user_hash, demand_shadow};
 
 /// Makes the line of shadow on demand, and then changes the hash.
 pub(crate) fn write_hash(

@@ -16,11 +16,11 @@ ghost use Rattle.user_changes.specs.Ranges.{change_of, owner_of, range_change, r
 use crate::ranges::{UserRanges, asked_ranges};
 use account_model::IdSort;
 use acct_text::{Bytes, Tab};
+use carried_tables::edited_ranges;
 use command_values::{Asked, IdRange};
-use range_edits::edited_ranges;
 use std::alloc::{AllocError, Global};
 use subid_ranges::Ranges;
-use table_lookups::Tables;
+use table_edits::Tables;
 
 /// The UIDs of `-V` and `-v`, or the GIDs of `-W` and `-w`, of a user with that UID so far, without
 /// the ranges that the user has already.

@@ -12,7 +12,7 @@ ghost use Rattle.account_model.specs.Users.{uid_of};
 ghost use Rattle.account_model.specs.Request.{operand};
 ghost use Rattle.account_model.specs.Written.{IsNameField};
 ghost use Rattle.subid_ranges.specs.RangeLines.{meeting_line, with_range};
-ghost use Rattle.table_lookups.specs.Stopping.{StopsBy};
+ghost use Rattle.table_edits.specs.Stopping.{StopsBy};
 ghost use Rattle.user_changes.specs.Ranges.{change_of, first_meeting_in, owner_of, range_change, range_table};
 
 use crate::lacked::{lines_before, range_file, range_table, user_ranges};
@@ -22,7 +22,7 @@ use acct_text::Tab;
 use command_values::{Asked, IdRange, ToolFault};
 use std::alloc::Global;
 use subid_ranges::{RangeFault, Ranges};
-use table_lookups::Tables;
+use table_edits::Tables;
 
 /// Refuses the first new range of `-v`, or of `-w`, that meets a line of subuid, or of subgid, as it
 /// stands then: `Meets`. An absent table is met by none. `old_uid` is the UID so far.

@@ -4,18 +4,16 @@ ghost use Rattle.account_model.specs.Edits.{each};
 ghost use Rattle.account_model.specs.Tables.{no_edits};
 ghost use Rattle.account_model.specs.Usermod.{changed_group, changed_gshadow};
 ghost use Rattle.table_edits.specs.Additions.{HasAlso};
-ghost use Rattle.user_changes.specs.Memberships.{group_edit, group_names, gshadow_edit, membership, user_groups};
+ghost use Rattle.user_changes.specs.Memberships.{group_edit, gshadow_edit, membership, user_groups};
 
 use crate::changes::new_name;
 use acct_text::{Bytes, Names};
 use command_values::Asked;
-use given_groups::{group_name, group_words, groups_asked};
 use line_edits::{
     Edit, GroupAct, GroupChange, GshadowAct, GshadowChange, Membership, NameSet, UserGroups,
 };
 use std::alloc::{AllocError, Global};
-use table_edits::Script;
-use table_lookups::Tables;
+use table_edits::{Script, Tables, group_names};
 
 /// Changes the lists of all groups, in group and in gshadow.
 pub(crate) fn write_memberships(
@@ -92,23 +90,4 @@ fn user_groups(alloc: Global, asked: &Asked, names: &Names) -> Result<UserGroups
     } else {
         Ok(UserGroups::Only(groups))
     }
-}
-
-/// The names of the groups of `-G`, in the order in which they were given.
-pub(crate) fn group_names(
-    alloc: Global,
-    asked: &Asked,
-    tables: &Tables,
-) -> Result<Names, AllocError>
-    ensures { IfOk result (λ names. names ≡ group_names asked.now tables.now) }
-{
-    let words = group_words(alloc, asked)?;
-    let groups = groups_asked(alloc, tables, &words)?;
-    let mut names = Names::new(alloc);
-    for word in words.as_slice() {
-        if let Some(name) = group_name(alloc, &groups, word.as_slice())? {
-            names.push(name.as_slice())?;
-        }
-    }
-    Ok(names)
 }

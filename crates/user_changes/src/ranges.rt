@@ -22,8 +22,7 @@ use acct_text::Bytes;
 use command_values::{Asked, IdRange};
 use line_edits::{Edit, RangeCut, SubidChange};
 use std::alloc::{AllocError, Global};
-use table_edits::Script;
-use table_lookups::Tables;
+use table_edits::{Script, Tables};
 
 /// The IDs of subuid or of subgid that a user loses and gets.
 #[derive(Drop)]

@@ -1,4 +1,3 @@
 pub mod Added
 pub mod Allotments
 pub mod Plans
-pub mod Joining

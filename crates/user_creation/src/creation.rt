@@ -12,7 +12,7 @@ ghost use Rattle.tool_answers.specs.Refusing.{RefusesBy};
 ghost use Rattle.command_values.specs.Chosen.{AddsSettings};
 ghost use Rattle.login_defs.specs.Held.{HasSettings, IsHeld};
 ghost use Rattle.table_edits.specs.Acting.{ActsBy};
-ghost use Rattle.table_lookups.specs.Stopping.{StopsBy};
+ghost use Rattle.table_edits.specs.Stopping.{StopsBy};
 ghost use Rattle.user_creation.specs.Plans.{HasPlanned};
 
 use crate::plan::{NewIds, plan_of};
@@ -21,11 +21,9 @@ use crate::script::user_script;
 use account_model::{Allotment, Plan, Refusal};
 use acct_text::{Bytes, Tab};
 use command_values::{Asked, Form, ToolFault, check_name};
-use given_groups::{check_given_group, check_given_groups};
 use login_defs::Defs;
 use std::alloc::Global;
-use table_edits::Script;
-use table_lookups::Tables;
+use table_edits::{Script, Tables, check_given_group, check_given_groups};
 
 /// The edits that make the user, on the day, in days since 1970-01-01.
 ///

@@ -14,8 +14,7 @@ use carried_tables::RangeFile;
 use command_values::Asked;
 use line_edits::Edit;
 use std::alloc::{AllocError, Global};
-use table_edits::{Report, Script};
-use table_lookups::Tables;
+use table_edits::{Report, Script, Tables};
 
 /// What useradd reports by the script with which it makes the user: notices of a hash that stands in
 /// passwd and could open the account, and of ranges that stood there before and are the new user's.

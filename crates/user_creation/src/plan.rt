@@ -9,10 +9,9 @@ ghost use Rattle.user_creation.specs.Plans.{GivesGid};
 use crate::ranges::{allotment_of, gid_bounds, uid_bounds};
 use account_model::{IdSort, Plan};
 use command_values::{Asked, free_id};
-use given_groups::given_group;
 use login_defs::Defs;
 use std::alloc::{AllocError, Global};
-use table_lookups::Tables;
+use table_edits::{Tables, given_group};
 
 // The primary GID without `-g` and without a group of the user's own.
 const DEFAULT_GID: u32 = 100;

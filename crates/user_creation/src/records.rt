@@ -10,7 +10,7 @@ use acct_text::Bytes;
 use command_values::{Asked, read_days, read_expiration};
 use login_defs::Defs;
 use std::alloc::{AllocError, Global};
-use table_lookups::Tables;
+use table_edits::Tables;
 
 /// The new line of passwd. The hash stands there where there is no shadow.
 pub(crate) fn new_user(

@@ -1,25 +1,23 @@
 // The edits that make a user (useradd(8)).
-ghost use Rattle.std.specs.Prelude.{◌≡◌, ◌++◌, ◌∷◌, [], IfOk, OnOk};
+ghost use Rattle.std.specs.Prelude.{◌≡◌, ◌++◌, ◌∷◌, [], map, IfOk, OnOk};
 ghost use Rattle.account_model.specs.Edits.Edit.{Add, Put};
+ghost use Rattle.account_model.specs.Members.{add_to_group};
 ghost use Rattle.account_model.specs.NewRanges.{allotted};
-ghost use Rattle.account_model.specs.Tables.{no_edits};
+ghost use Rattle.account_model.specs.Tables.{in_order, no_edits};
 ghost use Rattle.account_model.specs.Useradd.{add_own_group, add_user, join_groups as joined_groups, new_user};
 ghost use Rattle.table_edits.specs.Additions.{HasAlso};
 ghost use Rattle.line_edits.specs.SeenEdits.{seen_edits};
 ghost use Rattle.table_edits.specs.SeenScript.{seen_script};
 ghost use Rattle.line_edits.specs.SubidChanges.{subid_becomes};
-ghost use Rattle.user_creation.specs.Joining.{joining, joining_all};
 
 use crate::plan::NewIds;
 use crate::records::new_user;
 use account_model::{Allotment, Plan, ShadowRecord, SubidRecord};
 use acct_text::Bytes;
 use command_values::Asked;
-use given_groups::{group_name, group_words, groups_asked};
 use line_edits::{Edit, SubidChange};
 use std::alloc::{AllocError, Global};
-use table_edits::{Script, add_group};
-use table_lookups::{GroupIndex, Tables};
+use table_edits::{Script, Tables, add_group, group_names};
 
 /// The edits that make a user of these IDs with this line of shadow, by the plan: the lines of the
 /// user, a group of its own, the groups of `-G` and the subordinate ranges.
@@ -91,42 +89,24 @@ fn join_groups(
 ) -> Result<(), AllocError>
     ensures { OnOk result (HasAlso (joined_groups asked.now tables.now) script.old script.new) }
 {
-    let words = group_words(alloc, asked)?;
-    let groups = groups_asked(alloc, tables, &words)?;
-    join_all(alloc, script, &groups, words.as_slice(), asked.operand())
+    let groups = group_names(alloc, asked, tables)?;
+    join_all(alloc, script, groups.as_slice(), asked.operand())
 }
 
-// The user joins the groups that the words name.
+// The user joins the groups of these names.
 fn join_all(
     alloc: Global,
     script: &mut Script,
-    groups: &GroupIndex<'_>,
-    words: &[Bytes],
+    groups: &[Bytes],
     user: &[u8],
 ) -> Result<(), AllocError>
-    ensures { OnOk result
-        (HasAlso (joining_all groups.now user.now words.now) script.old script.new) }
+    ensures { OnOk result (HasAlso (in_order (map (λ group. add_to_group group user.now) groups.now))
+        script.old script.new) }
 {
-    for word in words {
-        join(alloc, script, groups, word.as_slice(), user)?;
+    for group in groups {
+        script.add_to_group(alloc, group.as_slice(), user)?;
     }
     Ok(())
-}
-
-// The user joins the group that the word names.
-fn join(
-    alloc: Global,
-    script: &mut Script,
-    groups: &GroupIndex<'_>,
-    word: &[u8],
-    user: &[u8],
-) -> Result<(), AllocError>
-    ensures { OnOk result (HasAlso (joining groups.now user.now word.now) script.old script.new) }
-{
-    match group_name(alloc, groups, word)? {
-        Some(group) => script.add_to_group(alloc, group.as_slice(), user),
-        None => Ok(()),
-    }
 }
 
 // The subordinate ranges of the user.

@@ -8,7 +8,7 @@ use account_model::PasswdRecord;
 use acct_lines::PasswdLine;
 use std::alloc::{AllocError, Global};
 use table::RecordTest;
-use table_lookups::Tables;
+use table_edits::Tables;
 
 /// An ID of a user.
 #[derive(Clone, Copy)]

@@ -15,8 +15,7 @@ use acct_text::{Bytes, Names};
 use command_values::Asked;
 use login_defs::Defs;
 use std::alloc::{AllocError, Global};
-use table_edits::Script;
-use table_lookups::Tables;
+use table_edits::{Script, Tables};
 
 /// The group that goes with the user, where nothing keeps it.
 pub(crate) fn own_group(

@@ -21,8 +21,7 @@ use line_edits::{
 };
 use login_defs::Defs;
 use std::alloc::{AllocError, Global};
-use table_edits::{Report, Script};
-use table_lookups::Tables;
+use table_edits::{Report, Script, Tables};
 
 /// The edits that remove the user, with its ranges and the group of its name.
 ///

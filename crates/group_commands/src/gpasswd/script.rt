@@ -13,8 +13,7 @@ use acct_text::{Bytes, Names};
 use command_values::{Asked, list_value};
 use line_edits::{GroupAct, GshadowAct};
 use std::alloc::{AllocError, Global};
-use table_edits::{Script, demand_gshadow, set_group_hash};
-use table_lookups::Tables;
+use table_edits::{Script, Tables, demand_gshadow, set_group_hash};
 
 /// The edits that the options ask for, in their order.
 pub(super) fn script_of(alloc: Global, asked: &Asked, tables: &Tables) -> Result<Script, AllocError>

@@ -8,10 +8,10 @@ use Rattle.table.proofs.FileLemmas.{records-in}
 use Rattle.carried_tables.proofs.range_numbers.known_or_gathered.Goals as goal
 
 -- the text is that of the file
-pub returns-in_ok-file-in-None : goal.returns-in_ok-file-in-None
-returns-in_ok-file-in-None c =
+pub returns-in_ok-seen-in-None : goal.returns-in_ok-seen-in-None
+returns-in_ok-seen-in-None c =
     IfOk-weaker c.of.result _ _ (λ numbers are.
     subst (λ ranges. AreNumbersOf ranges numbers)
     (records-in subid_format (lines_of c.text_of.result.now) c.args.table.now
-    (c.text_of.ensures ∙ ap lines_in c.in_ok-file-in-None.ensures)) are)
+    (c.text_of.ensures ∙ ap lines_in (c.file.ensures ∙ c.in_ok-seen-in-None.ensures))) are)
     c.of.ensures

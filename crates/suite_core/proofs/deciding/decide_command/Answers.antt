@@ -1,7 +1,7 @@
 use Rattle.std.proofs.Common.{◌≡◌, ℕ, List, subst}
 use Rattle.std.proofs.lemmas.Result.{IfOk-weaker}
 use Rattle.account_model.specs.Request.{Request}
-use Rattle.batch_commands.specs.Deciding.{command_decision}
+use Rattle.suite_tools.specs.Deciding.{command_decision}
 use Rattle.suite_core.proofs.deciding.decide_command.Goals as goal
 
 -- the request is that of the command, with its whole input, and the day is its day

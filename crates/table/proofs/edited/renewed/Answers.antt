@@ -10,7 +10,7 @@ pub returns : goal.returns
 returns g c =
     IfOk-weaker c.of.result _ _ (λ made is.
     ap lines_now is
-    ∙ start-lines 0 (lines_of c.as_slice.result.now)
-    ∙ ap lines_of (c.as_slice.ensures ∙ c.in_ok-text.ensures)
+    ∙ start-lines 0 (lines_of c.in_ok-text.text)
+    ∙ ap lines_of c.in_ok-text.ensures
     ∙ c.requires)
     c.of.ensures

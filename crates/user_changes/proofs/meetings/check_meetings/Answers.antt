@@ -2,7 +2,7 @@ use Rattle.std.proofs.Common.{◌∙◌, ap, subst}
 use Rattle.acct_text.specs.Files.{table_of}
 use Rattle.account_model.specs.Usermod.{range_owner}
 use Rattle.account_model.specs.UsermodRanges.{meeting_in}
-use Rattle.table_lookups.specs.Stopping.{StopsBy}
+use Rattle.table_edits.specs.Stopping.{StopsBy}
 use Rattle.user_changes.specs.Ranges.{change_of, range_table}
 use Rattle.user_changes.proofs.meetings.check_meetings.Goals as goal
 

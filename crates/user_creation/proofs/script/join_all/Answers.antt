@@ -1,21 +1,22 @@
-use Rattle.std.proofs.Common.{◌<◌, length, subst, arith}
-use Rattle.account_model.specs.Tables.{followed_by}
-use Rattle.table_edits.specs.Additions.{HasAlso}
+use Rattle.std.proofs.Common.{◌∙◌, ◌<◌, ℕ, List, ap, length, map, arith}
+use Rattle.account_model.specs.Members.{add_to_group}
+use Rattle.account_model.specs.Tables.{followed_by, in_order}
 use Rattle.table_edits.specs.SeenScript.{seen_script}
-use Rattle.user_creation.specs.Joining.{joining, joining_all}
-use Rattle.user_creation.proofs.JoiningLemmas.{joins-on}
+use Rattle.user_creation.proofs.JoiningLemmas.{order-on}
 use Rattle.user_creation.proofs.script.join_all.Goals as goal
 
-pub loop-word-preserved : goal.loop-word-preserved
-loop-word-preserved c =
-    let files = c.args.groups.now in
+pub loop-group-preserved : goal.loop-group-preserved
+loop-group-preserved c =
     let user = c.args.user.now in
-    let words = c.args.words.now in
-    let place = c.loop-word.word-index in
-    let inside : place < length words = omega arith in
-    joins-on files user words place c.word-item.result c.loop-word.script c.join.new.script
-    (followed_by (seen_script c.args.script.now) (joining_all files user words)) inside
-    c.word-item.is
-    (subst (λ word. HasAlso (joining files user word) c.loop-word.script c.join.new.script)
-    c.as_slice.ensures (c.in_ok-join.ensures {u = tt}))
-    c.loop-word.invariant
+    let groups = c.args.groups.now in
+    let joined = λ (group : List ℕ). add_to_group group user in
+    let place = c.loop-group.group-index in
+    let inside : place < length groups = omega arith in
+    let old = seen_script c.loop-group.script in
+    order-on joined groups place c.group-item.result old
+    (seen_script c.add_to_group.new.self)
+    (followed_by (seen_script c.args.script.now) (in_order (map joined groups))) inside
+    c.group-item.is
+    (c.in_ok-add_to_group.ensures {u = tt}
+    ∙ ap (λ group. followed_by old (joined group)) c.as_slice.ensures)
+    c.loop-group.invariant

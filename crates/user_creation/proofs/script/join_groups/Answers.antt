@@ -1,21 +1,27 @@
-use Rattle.std.proofs.Common.{◌∙◌, ℕ, List, subst}
+use Rattle.std.proofs.Common.{◌∙◌, ℕ, List, ap, map}
 use Rattle.std.proofs.lemmas.Result.{on_ok_weaker}
-use Rattle.account_model.specs.GivenGroups.{group_words}
-use Rattle.table_edits.specs.Additions.{HasAlso}
-use Rattle.user_creation.specs.Joining.{joining_all}
+use Rattle.std.proofs.lemmas.Simd.{map-map}
+use Rattle.account_model.specs.GivenGroups.{given_groups}
+use Rattle.account_model.specs.Members.{add_to_group}
+use Rattle.account_model.specs.Request.{operand}
+use Rattle.account_model.specs.Tables.{followed_by, in_order}
+use Rattle.account_model.specs.declared.records.GroupRecord.{GroupRecord}
+use Rattle.table_edits.specs.SeenScript.{seen_script}
 use Rattle.user_creation.proofs.script.join_groups.Goals as goal
 
+-- the names are those of the groups of `-G`
 pub returns : goal.returns
 returns c =
-    let old = c.args.script.now in
-    let new = c.join_all.new.script in
-    let words = group_words c.args.asked.now in
-    let files = c.args.tables.now in
+    let asked = c.args.asked.now in
+    let joined = λ (user : List ℕ) (groups : List (List ℕ)).
+    followed_by (seen_script c.args.script.now)
+    (in_order (map (λ group. add_to_group group user) groups)) in
     on_ok_weaker c.join_all.result
-    (λ joined.
-    subst (λ (user : List ℕ). HasAlso (joining_all files user words) old new) c.operand.ensures
-    (subst (λ (words : List (List ℕ)). HasAlso (joining_all files c.operand.result.now words) old new)
-    (c.as_slice.ensures ∙ c.in_ok-words.ensures {u = tt})
-    (subst (λ files. HasAlso (joining_all files c.operand.result.now c.as_slice.result.now) old new)
-    (c.in_ok-groups.ensures {u = tt}) joined)))
+    (λ also.
+    also
+    ∙ ap (λ user. joined user c.as_slice.result.now) c.operand.ensures
+    ∙ ap (joined (operand asked)) (c.as_slice.ensures ∙ c.in_ok-groups.ensures {u = tt})
+    ∙ ap (λ scripts. followed_by (seen_script c.args.script.now) (in_order scripts))
+    (map-map (λ group. add_to_group group (operand asked)) (λ (group : GroupRecord). group.name)
+    (given_groups asked c.args.tables.now)))
     c.join_all.ensures

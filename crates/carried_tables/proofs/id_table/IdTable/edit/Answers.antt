@@ -5,7 +5,8 @@ use Rattle.account_model.specs.RecordEdits.{IsWrittenEdit}
 use Rattle.line_edits.specs.SeenEdits.{seen_edits}
 use Rattle.line_edits.proofs.EditLists.{edits-from, edits-up_to, no-edits}
 use Rattle.table.specs.TableEdits.{AreWritten, table_by}
-use Rattle.carried_tables.proofs.EditedTables.{no-edit, table-there, table-two}
+use Rattle.carried_tables.proofs.EditedTables.{table-there, table-two}
+use Rattle.table.proofs.TableLemmas.{no-edit}
 use Rattle.carried_tables.proofs.id_table.IdTable.edit.Goals as goal
 
 -- the first of those left may print what all may

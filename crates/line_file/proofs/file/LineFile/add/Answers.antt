@@ -5,14 +5,14 @@ use Rattle.std.proofs.lemmas.List.{length-map, map-append}
 use Rattle.std.proofs.lemmas.List.Elements.{All-from_recursion}
 use Rattle.line_file.specs.declared.cell.Cell.{Cell}
 use Rattle.line_file.specs.Cells.{text_added}
-use Rattle.line_file.specs.Kept.{cells_kept, file_text, patches_of}
+use Rattle.line_file.specs.Kept.{cells_kept, patches_of}
 use Rattle.line_file.proofs.KeptCells.{kept-added, kept-below}
 use Rattle.line_file.proofs.file.LineFile.add.Goals as goal
 
 pub returns-clause-added : goal.returns-clause-added
 returns-clause-added c =
     let file = c.self.inside in
-    let text = file_text file.text in
+    let text = file.text in
     let patches = patches_of file.patched in
     let added = map vec_items file.added.items in
     let line = c.args.text in
@@ -31,7 +31,7 @@ returns-clause-added c =
 pub returns-clause-behind : goal.returns-clause-behind
 returns-clause-behind c =
     let file = c.self.inside in
-    let text = file_text file.text in
+    let text = file.text in
     let patches = patches_of file.patched in
     let added = map vec_items file.added.items in
     let cells = cells_kept text file.are_ended patches added in

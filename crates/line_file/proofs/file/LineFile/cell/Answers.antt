@@ -4,14 +4,14 @@ use Rattle.std.specs.Vec.{vec_items}
 use Rattle.acct_text.specs.Lines.{lines_of}
 use Rattle.line_file.specs.declared.cell.Cell.{Cell}
 use Rattle.line_file.specs.Cells.{cell_at, cells_from}
-use Rattle.line_file.specs.Kept.{file_text, line_cell, patches_of, shown_cell}
+use Rattle.line_file.specs.Kept.{line_cell, patches_of, shown_cell}
 use Rattle.line_file.proofs.KeptCells.{kept-at_added, kept-at_line}
 use Rattle.line_file.proofs.file.LineFile.cell.Goals as goal
 
 pub returns-then-place-size : goal.returns-then-place-size
 returns-then-place-size c =
     let file = c.self.inside in
-    let text = file_text file.text in
+    let text = file.text in
     let place = c.args.place in
     let added = map vec_items file.added.items in
     let at = place - length c.as_slice-size.result.now in
@@ -23,7 +23,7 @@ returns-then-place-size c =
 pub returns-in-Some : goal.returns-in-Some
 returns-in-Some c =
     let file = c.self.inside in
-    let text = file_text file.text in
+    let text = file.text in
     let place = c.args.place in
     let patches = patches_of file.patched in
     let line = line_cell place c.in-Some.line in
@@ -40,7 +40,7 @@ returns-in-Some c =
 pub returns-in-None : goal.returns-in-None
 returns-in-None c =
     let file = c.self.inside in
-    let text = file_text file.text in
+    let text = file.text in
     let place = c.args.place in
     let patches = patches_of file.patched in
     let shown = λ (cell : Cell). shown_cell file.are_ended (patches cell.place) cell in

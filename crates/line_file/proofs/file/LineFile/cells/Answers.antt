@@ -3,7 +3,7 @@ use Rattle.std.specs.Vec.{vec_items}
 use Rattle.acct_text.specs.Lines.{file_bytes, lines_of}
 use Rattle.acct_text.proofs.LinesLaws.{lines_of-are}
 use Rattle.line_file.specs.Cells.{ArePlaced}
-use Rattle.line_file.specs.Kept.{cells_left, file_text, patches_of}
+use Rattle.line_file.specs.Kept.{cells_left, patches_of}
 use Rattle.line_file.proofs.KeptCells.{kept-ascend, kept-left}
 use Rattle.line_file.proofs.PlacedCells.{ascend-placed}
 use Rattle.line_file.proofs.file.LineFile.cells.Goals as goal
@@ -17,7 +17,7 @@ invariant_of-result c =
 pub returns-clause-cells : goal.returns-clause-cells
 returns-clause-cells c =
     let file = c.self.inside in
-    let text = file_text file.text in
+    let text = file.text in
     let patches = patches_of file.patched in
     ap₂ (λ lines added. cells_left 0 lines file.are_ended patches (map vec_items added))
     (c.of.ensures ∙ ap lines_of c.as_slice.ensures) c.as_slice-2.ensures.value
@@ -29,4 +29,4 @@ returns-clause-placed c =
     let file = c.self.inside in
     let added = map vec_items file.added.items in
     subst ArePlaced c.self.view_is (ascend-placed 0 _
-    (kept-ascend (file_text file.text) file.are_ended (patches_of file.patched) added))
+    (kept-ascend file.text file.are_ended (patches_of file.patched) added))

@@ -5,7 +5,7 @@ use Rattle.std.specs.Vec.{vec_items}
 use Rattle.std.proofs.lemmas.Bool.{eqb-true}
 use Rattle.acct_text.specs.Lines.{file_bytes}
 use Rattle.line_file.specs.Cells.{lines_now}
-use Rattle.line_file.specs.Kept.{cells_kept, file_text, patches_of}
+use Rattle.line_file.specs.Kept.{cells_kept, patches_of}
 use Rattle.line_file.proofs.KeptCells.{kept-bytes}
 use Rattle.line_file.proofs.file.LineFile.kept_text.Goals as goal
 
@@ -17,7 +17,7 @@ empty-list (x ∷ xs) none = absurd (omega arith)
 pub returns : goal.returns
 returns c =
     let file = c.self.inside in
-    let text = file_text file.text in
+    let text = file.text in
     let patches = patches_of file.patched in
     let none : (place : _) → patches place ≡ None =
     λ place. ap (lookup (nat_eq place)) (empty-list file.patched.entries

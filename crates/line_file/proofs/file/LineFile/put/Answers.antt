@@ -2,14 +2,14 @@ use Rattle.std.proofs.Common.{◌≡◌, ◌∙◌, ◌+◌, ◌-◌, ap, arith,
 use Rattle.std.specs.Vec.{vec_items}
 use Rattle.std.proofs.lemmas.Result.{on_ok_weaker}
 use Rattle.line_file.specs.Cells.{texts_put}
-use Rattle.line_file.specs.Kept.{cells_kept, file_text, patches_of}
+use Rattle.line_file.specs.Kept.{cells_kept, patches_of}
 use Rattle.line_file.proofs.KeptCells.{kept-put, kept-put_added}
 use Rattle.line_file.proofs.file.LineFile.put.Goals as goal
 
 pub returns-then-place-size-clause-put : goal.returns-then-place-size-clause-put
 returns-then-place-size-clause-put c =
     let file = c.self.inside in
-    let text = file_text file.text in
+    let text = file.text in
     let place = c.args.place in
     let texts = c.args.texts.items in
     let size = ap length c.as_slice-size.ensures in
@@ -22,7 +22,7 @@ returns-then-place-size-clause-put c =
 pub returns-clause-put : goal.returns-clause-put
 returns-clause-put c =
     let file = c.self.inside in
-    let text = file_text file.text in
+    let text = file.text in
     let patches = patches_of file.patched in
     let added = map vec_items file.added.items in
     let place = c.args.place in

@@ -7,8 +7,8 @@ use Rattle.table.proofs.keyed_cells.KeyedCells.of.Goals as goal
 -- the index tells of the cells of the file's lines, which are sound
 pub invariant_of-result : goal.invariant_of-result
 invariant_of-result g c = record {
-  sound = subst (AllByRecursion IsSound) (sym c.in_ok-file.ensures)
-      (start-sound c.args.text.now);
+  sound = subst (AllByRecursion IsSound) (sym c.of-file.ensures)
+      (start-sound c.args.text);
   placed = c.in_ok-keys.ensures.placed;
   told_of = c.in_ok-keys.ensures.told;
 }

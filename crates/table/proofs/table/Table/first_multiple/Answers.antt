@@ -6,12 +6,12 @@ use Rattle.table.proofs.TableLemmas.{kept-records}
 use Rattle.table.proofs.table.Table.first_multiple.Goals as goal
 
 -- the records of the lines are those of the file
-pub returns-in-Some : goal.returns-in-Some
-returns-in-Some g c =
+pub returns-in-Indexed : goal.returns-in-Indexed
+returns-in-Indexed g c =
     let format = g.R.TableRecord.format in
-    IfOk-weaker c.first_multiple.result _ _ (λ found is.
+    IfOk-weaker c.first_multiple-in-Indexed.result _ _ (λ found is.
     is
     ∙ ap (first_multiple format (seen_edits g.R.EditedRecord.becomes c.args.edits.now))
-    (kept-records c.self.inside.cells c.in-Some.cells c.in-Some.is c.self.invariant format
+    (kept-records c.self.inside.standing c.in-Indexed.cells c.in-Indexed.is c.self.invariant format
     c.args.self.now c.self.view_is))
-    c.first_multiple.ensures
+    c.first_multiple-in-Indexed.ensures

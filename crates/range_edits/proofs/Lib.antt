@@ -1,3 +1,0 @@
-pub mod LeftLemmas
-pub mod RemovalLemmas
-pub mod CutLemmas

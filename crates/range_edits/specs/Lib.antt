@@ -1,2 +1,0 @@
-pub mod LeftRanges
-pub mod RangeRemovals

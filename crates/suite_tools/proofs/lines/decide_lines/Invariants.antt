@@ -1,0 +1,19 @@
+use Rattle.std.proofs.Common.{◌≡◌, List, length}
+use Rattle.account_model.specs.BatchLines.{line_requests}
+use Rattle.account_model.specs.Settings.{Setting}
+use Rattle.account_model.specs.Batch.{batch}
+use Rattle.login_defs.specs.Held.{HasSettings}
+use Rattle.option_words.specs.Batch.{requests_of}
+use Rattle.suite_tools.proofs.LinesLemmas.{with_left}
+use Rattle.suite_tools.proofs.lines.decide_lines.Given as goal
+
+-- what is written, with what the lines that are left make of it, is the batch
+abbrev pub invariant-lines : goal.invariant-lines
+invariant-lines l =
+    (settings : List Setting)
+    → HasSettings l.defs settings
+    → with_left l.ensuring l.day settings (requests_of l.lines) l.written
+    ≡ batch l.ensuring (line_requests l.input) l.day settings l.files
+
+abbrev pub decreases-lines : goal.decreases-lines
+decreases-lines l = length (requests_of l.lines)

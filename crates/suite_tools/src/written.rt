@@ -1,0 +1,136 @@
+// What the lines of a batch have written so far.
+ghost use Rattle.std.specs.Prelude.{◌≡◌, ◌≤◌, List, true, IfOk, OnOk};
+ghost use Rattle.acct_text.specs.Limits.{last_day};
+ghost use Rattle.account_model.specs.Batch.{is_done, line_outcome, nothing_on};
+ghost use Rattle.account_model.specs.Settings.{Setting};
+ghost use Rattle.account_model.specs.Words.{is_for_lines};
+ghost use Rattle.login_defs.specs.Held.{HasSettings, IsHeld};
+ghost use Rattle.tool_answers.specs.Decisions.{written_decision};
+ghost use Rattle.suite_tools.specs.Carrying.{StandWhere};
+ghost use Rattle.suite_tools.specs.Writing.{IsWrittenBehind, with_output};
+
+use crate::carry::carry_out;
+use crate::change::decide_change;
+use account_model::{Refusal, Tool};
+use acct_text::{Bytes, Files};
+use carried_tables::CarriedTables;
+use command_values::Asked;
+use login_defs::Defs;
+use option_words::LineRequest;
+use std::alloc::{AllocError, Global};
+use std::marker::Model;
+use tool_answers::{Decision, Output, ToolFault};
+
+// The status of a batch whose lines are all carried out, whatever theirs are.
+const CARRIED_OUT: u8 = 0;
+
+/// The tables that the lines so far leave, carried from line to line, and what these lines print.
+#[derive(Drop)]
+pub(crate) struct Written {
+    tables: CarriedTables,
+    out: Bytes,
+    err: Bytes,
+}
+
+impl Model for Written {
+    ghost use Rattle.account_model.specs.Batch.{Written as Left};
+
+    ghost Value = { Left };
+
+    ghost view = { λ written. record {
+      files = written.tables;
+      status = 0;
+      output = written.out;
+      error = written.err;
+    } };
+}
+
+impl Written {
+    /// What no lines leave of these tables.
+    pub(crate) fn nothing(alloc: Global, tables: CarriedTables) -> Self
+        ensures { result ≡ nothing_on tables }
+    {
+        Written {
+            tables,
+            out: Bytes::new(alloc),
+            err: Bytes::new(alloc),
+        }
+    }
+
+    /// Carries out what a line asks for behind those that have written this, or tells why its tool
+    /// refuses.
+    ///
+    /// A line that is done already is passed by, where that is wanted. Where it refuses all stays as it
+    /// was written; at `AllocError` a part of the line may be written.
+    pub(crate) fn carry_out(
+        &mut self,
+        alloc: Global,
+        ensuring: bool,
+        line: &LineRequest,
+        defs: &Defs,
+        day: u32,
+    ) -> Result<Option<Refusal>, AllocError>
+        requires held { IsHeld defs.now }
+        requires in_time { day ≤ last_day }
+        requires for_lines { is_for_lines line.now.request.tool ≡ true }
+        ensures { IfOk result (λ refusal. (settings : List Setting) → HasSettings defs.now settings
+            → IsWrittenBehind line.now.request.tool self.old self.new refusal
+            (line_outcome ensuring line.now.request day settings self.old.files)) }
+    {
+        match carry_out(
+            alloc,
+            &Asked::of(&line.parsed),
+            b"",
+            &mut self.tables,
+            defs,
+            day,
+        ) {
+            Ok(output) => {
+                self.print(&output)?;
+                Ok(None)
+            }
+            Err(ToolFault::Refused(refusal)) if ensuring && is_done(line.parsed.tool, &refusal) => {
+                Ok(None)
+            }
+            Err(ToolFault::Refused(refusal)) => Ok(Some(refusal)),
+            Err(ToolFault::Memory) => Err(AllocError),
+        }
+    }
+
+    // Prints what a line prints, behind the others. At `AllocError` a part of it may be there.
+    fn print(&mut self, output: &Output) -> Result<(), AllocError>
+        ensures { OnOk result (self.new ≡ with_output output.now self.old) }
+    {
+        self.out.push(output.out.as_slice())?;
+        self.err.push(output.err.as_slice())
+    }
+
+    /// What is decided where no line follows: the tables that differ from the first files get their
+    /// bytes.
+    pub(crate) fn decision(self, alloc: Global, first: &Files) -> Result<Decision, AllocError>
+        requires { StandWhere first.now self.files }
+        ensures { IfOk result (λ decision. decision ≡ written_decision first.now self) }
+    {
+        let Written {
+            mut tables,
+            out,
+            err,
+        } = self;
+        let status = CARRIED_OUT;
+        decide_change(alloc, first, &mut tables, Output { status, out, err })
+    }
+}
+
+// Whether the tool refuses as what it is to make stands already, or what it is to remove is gone.
+fn is_done(tool: Tool, refusal: &Refusal) -> bool
+    ensures { result ≡ is_done tool refusal.now }
+{
+    matches!(
+        (tool, refusal),
+        (Tool::Useradd, Refusal::UserExists(_))
+            | (Tool::Groupadd, Refusal::GroupExists(_))
+            | (Tool::Userdel, Refusal::NoUser(_))
+            | (Tool::Groupdel, Refusal::NoGroup(_))
+            | (Tool::Gpasswd, Refusal::NotMember(..))
+    )
+}

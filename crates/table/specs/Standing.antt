@@ -1,0 +1,26 @@
+-- The file of a table, however it stands (passwd(5), shadow(5), group(5), gshadow(5), subuid(5),
+-- subgid(5)).
+use Rattle.std.specs.Prelude.{ℕ, List, Option, Some, ⊤}
+use Rattle.acct_text.specs.Lines.{file_bytes}
+use Rattle.acct_tables.specs.SeenLines.{AreOfFile}
+use Rattle.line_file.specs.Cells.{lines_now}
+use Rattle.line_file.specs.declared.cell.Cell.{Cell}
+use Rattle.table.specs.declared.files.SeenFile.{SeenFile}
+use Rattle.table.specs.declared.files.SeenFile.TheVariants.{Lent, Made}
+use Rattle.table.specs.declared.table.Standing.{Standing}
+use Rattle.table.specs.declared.table.Standing.TheVariants.{File, Indexed}
+
+-- the file that was read, or the one that the lines make
+abbrev pub file_in : Standing (List Cell) → Option (List ℕ)
+file_in (File file) = file
+file_in (Indexed cells) = Some (file_bytes (lines_now cells))
+
+-- the lines, where such stand, are those of the file that they make
+abbrev pub IsOfFile : Standing (List Cell) → Type 0
+IsOfFile (File file) = ⊤
+IsOfFile (Indexed cells) = AreOfFile (lines_now cells)
+
+-- the file that is lent or made
+abbrev pub file_seen : SeenFile → Option (List ℕ)
+file_seen (Lent file) = file.now
+file_seen (Made file) = file

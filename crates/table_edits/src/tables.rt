@@ -1,0 +1,73 @@
+// The six tables of a command.
+ghost use Rattle.std.specs.Prelude.{◌≡◌, is_some, IfOk};
+
+use acct_text::Bytes;
+use carried_tables::{CarriedTables, RangeFile};
+use std::alloc::AllocError;
+use std::marker::Model;
+
+/// The tables of a command, as the commands before it left them. Contracts see them as the files.
+#[derive(Drop)]
+pub struct Tables<'a> {
+    /// Where they stand.
+    pub(crate) carried: &'a CarriedTables,
+}
+
+impl<'a> Model for Tables<'a> {
+    ghost use Rattle.acct_text.specs.declared.files.Files.{Files};
+
+    ghost Value = { Files };
+
+    ghost view = { λ t. t.carried.now };
+}
+
+impl<'a> Tables<'a> {
+    /// The tables that are carried from command to command.
+    pub fn of(tables: &'a CarriedTables) -> Self
+        ensures { result ≡ tables.now }
+    {
+        Tables { carried: tables }
+    }
+
+    /// Whether there is a shadow(5) file.
+    pub fn has_shadow_file(&self) -> bool
+        ensures { result ≡ is_some self.now.shadow }
+    {
+        self.carried.shadow().is_there()
+    }
+
+    /// Whether there is a gshadow(5) file.
+    pub fn has_gshadow_file(&self) -> bool
+        ensures { result ≡ is_some self.now.gshadow }
+    {
+        self.carried.gshadow().is_there()
+    }
+
+    /// A copy of the bytes of subuid(5); none where there is no file.
+    pub fn subuid_file(&self) -> Result<Option<Bytes>, AllocError>
+        ensures { IfOk result (λ file. file ≡ self.now.subuid) }
+    {
+        self.subuid_ranges().copy()
+    }
+
+    /// A copy of the bytes of subgid(5); none where there is no file.
+    pub fn subgid_file(&self) -> Result<Option<Bytes>, AllocError>
+        ensures { IfOk result (λ file. file ≡ self.now.subgid) }
+    {
+        self.subgid_ranges().copy()
+    }
+
+    /// The file of subuid(5) as it is asked for ranges.
+    pub fn subuid_ranges(&self) -> RangeFile<'a>
+        ensures { result ≡ self.now.subuid }
+    {
+        self.carried.subuid().ranges()
+    }
+
+    /// The file of subgid(5) as it is asked for ranges.
+    pub fn subgid_ranges(&self) -> RangeFile<'a>
+        ensures { result ≡ self.now.subgid }
+    {
+        self.carried.subgid().ranges()
+    }
+}
