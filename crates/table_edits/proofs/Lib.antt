@@ -1,4 +1,3 @@
 pub mod ActingLemmas
-pub mod GroupNames
 pub mod IdleLemmas
 pub mod OtherUsers
