@@ -50,7 +50,8 @@ module _ (has_id : PasswdRecord → Bool) where
           let here : has_id user ≡ true = rw named at has in
           rw named (omega (arith, count-first user (filter has_name users) true here))
       | inr other ↦
-          let behind : IsSomeAnd (find_named passwd_format name users) (λ user. has_id user ≡ true) =
+          let behind :
+          IsSomeAnd (find_named passwd_format name users) (λ user. has_id user ≡ true) =
           rw other at has in
           rw other (named-counted users behind)
     ]

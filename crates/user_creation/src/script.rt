@@ -100,8 +100,8 @@ fn join_all(
     groups: &[Bytes],
     user: &[u8],
 ) -> Result<(), AllocError>
-    ensures { OnOk result (HasAlso (in_order (map (λ group. add_to_group group user.now) groups.now))
-        script.old script.new) }
+    ensures { OnOk result (HasAlso
+        (in_order (map (λ group. add_to_group group user.now) groups.now)) script.old script.new) }
 {
     for group in groups {
         script.add_to_group(alloc, group.as_slice(), user)?;

@@ -7,4 +7,5 @@ use Rattle.aging_commands.proofs.chpasswd.new_hashes.Given as goal
 -- the script so far has the edits of the lines so far
 abbrev pub invariant-hashes : goal.invariant-hashes
 invariant-hashes l = seen_script l.script
-    ≡ in_order (map (λ hash. hash_script l.tables l.day (seen_line hash)) (take l.hash-index l.hashes))
+    ≡ in_order
+    (map (λ hash. hash_script l.tables l.day (seen_line hash)) (take l.hash-index l.hashes))
