@@ -1,16 +1,14 @@
 -- Claim: what is asked of all edits holds of the one at a place (`edit-at`), so each edit of a list may
 -- be carried out in its turn; and edits may be carried out up to a place and then from there
--- (`edited-apart`), also over the text between (`further-made`). A record that each of them leaves is
--- touched by none (`left-behind`, `left-all`).
-use Rattle.std.proofs.Common.{◌≡◌, ◌==◌, ℕ, ◌+◌, ◌<◌, ◌≤◌, true, false, List, [], ◌∷◌, ◌++◌, length, take, drop, get_or, zero, suc, refl, sym, ◌∙◌, ap, subst, arith}
+-- (`edited-apart`), also over the text between (`once-made`).
+use Rattle.std.proofs.Common.{◌≡◌, ◌==◌, ℕ, ◌+◌, ◌<◌, true, false, List, [], ◌∷◌, ◌++◌, length, take, drop, get_or, zero, suc, refl, sym, ◌∙◌, ap, subst, arith}
 use Rattle.std.specs.Prelude.{None}
 use Rattle.std.specs.List.{AllByRecursion}
-use Rattle.std.proofs.Math.ListN.{drop_of_length-le}
 use Rattle.std.proofs.lemmas.Bool.{ne_eqb}
 use Rattle.std.proofs.lemmas.List.{drop_more, map-append, take_more}
 use Rattle.acct_text.specs.Lines.{Line, file_bytes, lines_of}
 use Rattle.acct_text.proofs.LinesLaws.{lines_of-only}
-use Rattle.account_model.specs.Edits.{edited, edited_by, touches}
+use Rattle.account_model.specs.Edits.{edited, edited_by}
 use Rattle.account_model.specs.Edits as model
 use Rattle.account_model.specs.Format.{Format}
 use Rattle.account_model.specs.RecordEdits.{IsWrittenEdit}
@@ -19,7 +17,6 @@ use Rattle.acct_tables.specs.SeenLines.{AreOfFile}
 use Rattle.acct_tables.proofs.EditedFiles.{edit-found}
 use Rattle.line_edits.specs.declared.edit.Edit.{Edit}
 use Rattle.line_edits.specs.SeenEdits.{seen_edit, seen_edits}
-use Rattle.line_edits.specs.Touching.{LeavesTo}
 
 -- a list of no length is empty
 pub no-edits : {X : Type 0} (edits : List X) → (length edits == 0) ≡ true → edits ≡ []
@@ -112,28 +109,6 @@ module _ {R C : Type 0} (becomes : C → R → List R) where
       (lines_of-only (file_bytes half) half (edited-lines format none front text
       (edits-up_to (IsWrittenEdit format) edits place written)))
       ∙ in-two format edits place (lines_of text)
-
--- ---- Records that edits leave
-
-module _ {R C : Type 0} (becomes : C → R → List R) (format : Format R) (edits : List (Edit R C))
-    (r : R) (place : ℕ) where
-  -- an edit that leaves a record leaves it to those behind it
-  pub left-behind :
-      (edit : Edit R C)
-      → place < length edits
-      → edit ≡ get_or edits place edit
-      → LeavesTo format (seen_edit becomes edit) r
-      → touches format (seen_edits becomes (drop (place + 1) edits)) r
-      ≡ touches format (seen_edits becomes (drop place edits)) r
-  left-behind edit inside is leaves =
-      sym (ap (λ left. touches format left r) (seen-from becomes edits place edit inside is)
-      ∙ leaves (seen_edits becomes (drop (place + 1) edits)))
-
-  -- behind the last none touches it
-  pub left-all :
-      length edits ≤ place → touches format (seen_edits becomes (drop place edits)) r ≡ false
-  left-all behind =
-      ap (λ left. touches format (seen_edits becomes left) r) (drop_of_length-le edits behind)
 
 -- ---- Lines of a file
 

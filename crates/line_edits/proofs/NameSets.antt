@@ -1,15 +1,14 @@
 -- Claim: a set with one more text has it, and of the others those that it had (`set-takes`); so it
--- has the names of a list once each was added (`listed-more`). Its keys are these names,
--- of which no two are the same (`keys-listed`, `keys-apart`). Way: by whether a text is the new one.
+-- has the names of a list once each was added (`listed-more`). Its keys are these names
+-- (`keys-listed`). Way: by whether a text is the new one.
 use Rattle.std.proofs.Common.{◌≡◌, ◌∙◌, ℕ, Bool, true, false, List, [], ◌∷◌, ◌++◌, map, refl, sym, ap, ap₂}
 use Rattle.std.specs.Prelude.{◌||◌, bytes_eq}
 use Rattle.std.specs.Cmp.Lexicographic.{bytes_decides, nat_list_eq_equiv}
 use Rattle.std.specs.HashSet.{HashSet}
 use Rattle.std.specs.HashSet as bag
-use Rattle.std.specs.List.{AllByRecursion, IsDistinct, list_any}
+use Rattle.std.specs.List.{list_any}
 use Rattle.std.specs.Set.{KeepsOthers}
 use Rattle.std.proofs.lemmas.List.Folds.{list_any-append}
-use Rattle.std.proofs.lemmas.Map.Keys.{IsDistinct-cons, IsDistinct-head, IsDistinct-tail}
 use Rattle.account_model.specs.Text.{is_listed}
 use Rattle.line_edits.specs.NameSets.{has_text}
 
@@ -74,33 +73,3 @@ module _ {K : Type 0} (text : K → List ℕ) where
   keys-listed name [] = refl
   keys-listed name (key ∷ keys) =
       ap (λ others. bytes_eq name (text key) || others) (keys-listed name keys)
-
-  -- what is so of the texts of all keys
-  all-texts :
-      (P : List ℕ → Type 0) (keys : List K)
-      → AllByRecursion (λ key. P (text key)) keys
-      → AllByRecursion P (map text keys)
-  all-texts P [] all = tt
-  all-texts P (key ∷ keys) all = (all.0, all-texts P keys all.1)
-
-  -- no two of the texts are the same
-  pub keys-apart :
-      (keys : List K)
-      → IsDistinct (λ x y. bytes_eq (text x) (text y)) keys
-      → IsDistinct bytes_eq (map text keys)
-  unfolding IsDistinct
-  keys-apart [] apart = tt
-  keys-apart (key ∷ keys) apart =
-      IsDistinct-cons bytes_eq (text key) (map text keys)
-      (all-texts (λ other. bytes_eq (text key) other ≡ false) keys
-      (IsDistinct-head (λ x y. bytes_eq (text x) (text y)) key keys apart))
-      (keys-apart keys (IsDistinct-tail (λ x y. bytes_eq (text x) (text y)) key keys apart))
-
--- no names are apart
-pub none-apart : IsDistinct bytes_eq []
-unfolding IsDistinct
-none-apart = tt
-
--- and so is one name
-pub one-apart : (name : List ℕ) → IsDistinct bytes_eq (name ∷ [])
-one-apart name = IsDistinct-cons bytes_eq name [] tt none-apart

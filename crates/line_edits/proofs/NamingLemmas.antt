@@ -2,13 +2,10 @@
 -- membership touches only the groups that the user joins where it leaves none and keeps its name
 -- (`joined-group`, `joined-gshadow`). Way: act by act.
 use Rattle.std.proofs.Common.{◌≡◌, ◌∙◌, ℕ, Bool, true, false, List, [], ◌∷◌, refl, sym, ap, if◌then◌else◌}
-use Rattle.std.specs.List.{IsDistinct}
 use Rattle.std.specs.Prelude.{◌&&◌, not, bytes_eq, IfSome, Option, Some, None}
 use Rattle.std.proofs.lemmas.Slice.Eq.{bytes_eq-Decides}
-use Rattle.account_model.specs.Edits.Edit.{Become}
 use Rattle.account_model.specs.Format.{Format, is_named}
 use Rattle.account_model.specs.Records.{group_format, gshadow_format}
-use Rattle.account_model.specs.RecordEdits.{TellsSame}
 use Rattle.account_model.specs.Text.{is_listed}
 use Rattle.account_model.specs.Members.{in_place_of, name_once, renamed_in, with_name}
 use Rattle.line_edits.specs.GroupChanges.{group_becomes}
@@ -21,11 +18,8 @@ use Rattle.line_edits.specs.declared.gshadow_changes.GshadowAct.TheVariants.{Set
 use Rattle.line_edits.specs.declared.gshadow_changes.GshadowChange.TheVariants.{All as AllGshadows}
 use Rattle.line_edits.specs.declared.memberships.Membership.{Membership}
 use Rattle.line_edits.specs.declared.memberships.UserGroups.TheVariants.{Also, Kept}
-use Rattle.line_edits.specs.Touching.{LeavesOthers}
 use Rattle.line_edits.specs.declared.changed_names.ChangedNames.{ChangedNames}
 use Rattle.line_edits.proofs.LeftLemmas.{neither}
-use Rattle.line_edits.proofs.NameSets.{none-apart, one-apart}
-use Rattle.line_edits.proofs.ReachLemmas.{left-to}
 
 -- a record of another name than one
 pub unnamed :
@@ -41,15 +35,12 @@ module _ {R C : Type 0} (format : Format R) (becomes : C → R → List R) (chan
       → ((r : R) → becomes told r ≡ f (is_named format name r) r)
       → ((r : R) → f false r ≡ r ∷ [])
       → TouchesOnly format (becomes change) (text ∷ [])
-  touches-told f gives same = record {
-    others = λ r other.
-        ap (λ change. becomes change r) is
-        ∙ gives r
-        ∙ ap (λ named. f named r)
-        (ap (bytes_eq (format.name r)) (sym named) ∙ unnamed (format.name r) text other)
-        ∙ same r;
-    apart = one-apart text;
-  }
+  touches-told f gives same = λ r other.
+      ap (λ change. becomes change r) is
+      ∙ gives r
+      ∙ ap (λ named. f named r)
+      (ap (bytes_eq (format.name r)) (sym named) ∙ unnamed (format.name r) text other)
+      ∙ same r
 
   -- so does an act with them
   pub touches-named :
@@ -78,7 +69,6 @@ kept-only membership name is = record {
   name = name;
   others = λ group members other.
       ap (λ groups. members_with groups membership.user group members) is;
-  apart = none-apart;
 }
 
 -- one who keeps its name and joins groups changes in these
@@ -87,15 +77,13 @@ pub also-only :
     → membership.user ≡ membership.new_name
     → membership.groups ≡ Also groups
     → ((name : List ℕ) → is_listed name names ≡ is_listed name groups)
-    → IsDistinct bytes_eq names
     → ChangesOnlyIn membership names
-also-only membership groups names name is listed apart = record {
+also-only membership groups names name is listed = record {
   name = name;
   others = λ group members other.
       ap (λ groups. members_with groups membership.user group members) is
       ∙ ap (λ joins. if joins then with_name membership.user members else members)
       (sym (listed group) ∙ other);
-  apart = apart;
 }
 
 -- a name isn't renamed to itself, by whether it is listed
@@ -128,25 +116,19 @@ module _ (membership : Membership) (groups : List (List ℕ))
   -- in group
   only-groups :
       TouchesOnly group_format (group_becomes (AllGroups (GroupSetMembership membership))) groups
-  only-groups = record {
-    others = λ r other. ap (λ members. record r { members = members } ∷ [])
-        (members-stay r.name r.members other);
-    apart = only.apart;
-  }
+  only-groups = λ r other.
+      ap (λ members. record r { members = members } ∷ []) (members-stay r.name r.members other)
 
   -- in gshadow
   only-gshadows :
       TouchesOnly gshadow_format (gshadow_becomes (AllGshadows (GshadowSetMembership membership)))
       groups
-  only-gshadows = record {
-    others = λ r other.
-        ap (λ names. record r {
-          administrators = names;
-          members = members_by membership r.name r.members;
-        } ∷ []) (same-renamed membership.user membership.new_name r.administrators only.name)
-        ∙ ap (λ members. record r { members = members } ∷ []) (members-stay r.name r.members other);
-    apart = only.apart;
-  }
+  only-gshadows = λ r other.
+      ap (λ names. record r {
+        administrators = names;
+        members = members_by membership r.name r.members;
+      } ∷ []) (same-renamed membership.user membership.new_name r.administrators only.name)
+      ∙ ap (λ members. record r { members = members } ∷ []) (members-stay r.name r.members other)
 
 -- where the groups are told, in group
 pub joined-group :
@@ -165,15 +147,3 @@ pub joined-gshadow :
     (gshadow_becomes (AllGshadows (GshadowSetMembership membership))) (names_in names))
 joined-gshadow membership None only = tt
 joined-gshadow membership (Some names) only = only-gshadows membership (names_in names) only
-
--- ---- Edits of names
-
--- a change of some names leaves each record of another to the edits behind it
-pub only-leaves :
-    {R : Type 0} (format : Format R) (f : R → List R) (names : Option ChangedNames)
-    → TellsSame format
-    → IfSome names (λ names. TouchesOnly format f (names_in names))
-    → IfSome names (λ names. LeavesOthers format (Become f) (names_in names))
-only-leaves format f None tells only = tt
-only-leaves format f (Some names) tells only = λ r other.
-    left-to format f r tells (only.others r other)

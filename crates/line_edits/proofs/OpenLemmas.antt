@@ -1,30 +1,22 @@
 -- Claim: a file is open from its start (`open-all`), and from the marks of the change on
 -- (`open-marked`), and behind a line that the change leaves from the next one on (`open-next`), or
--- from where that is open (`open-further`), and where a change alone touches no record in front
--- (`open-passed`); and what is copied of it, with what becomes of the rest,
+-- from where that is open (`open-further`); and what is copied of it, with what becomes of the rest,
 -- is what becomes of all (`front-pushed`). Way: a line that is left becomes itself.
-use Rattle.std.proofs.Common.{◌≡◌, ◌∙◌, ℕ, ◌-◌, Bool, true, false, List, [], ◌∷◌, ◌++◌, length, take, refl, sym, ap, arith, append_assoc}
-use Rattle.std.specs.Prelude.{◌||◌, not, flat_map, Option, Some, None}
+use Rattle.std.proofs.Common.{◌≡◌, ◌∙◌, ℕ, ◌-◌, List, [], ◌∷◌, ◌++◌, length, take, refl, sym, ap, arith, append_assoc}
+use Rattle.std.specs.Prelude.{flat_map}
 use Rattle.std.specs.List.{AllByRecursion}
 use Rattle.std.proofs.lemmas.Grind.{flat_map-append}
 use Rattle.std.proofs.lemmas.List.{length-append}
 use Rattle.acct_text.specs.Lines.{Line, file_bytes, line_bytes, lines_of}
 use Rattle.acct_text.proofs.LinesLaws.{lines_of-are}
-use Rattle.account_model.specs.Edits.{becomes, becoming_touches, line_becomes, touches}
-use Rattle.account_model.specs.Edits.Edit.{Become}
+use Rattle.account_model.specs.Edits.{becomes}
 use Rattle.account_model.specs.Format.{Format}
 use Rattle.account_model.specs.RecordEdits.{TellsSame}
 use Rattle.acct_tables.specs.Marks.{IsFromMarks, IsWithoutAll}
 use Rattle.acct_tables.proofs.FrontLines.{front-taken}
 use Rattle.line_edits.specs.Naming.{AreMarksOf, Leaves}
 use Rattle.line_edits.specs.OpenLines.{IsOpenFrom}
-use Rattle.line_edits.specs.Reach.{IsUntouched}
-use Rattle.line_edits.proofs.ChangedLines.{left-line, stays}
-
--- two that don't differ are the same
-unchanged : (same : Bool) → (not same || false) ≡ false → same ≡ true
-unchanged true is = refl
-unchanged false is = absurd cc
+use Rattle.line_edits.proofs.ChangedLines.{left-line}
 
 module _ {R : Type 0} (format : Format R) (tells : TellsSame format) (f : R → List R) where
   -- a file is open from its start
@@ -81,46 +73,6 @@ module _ {R : Type 0} (format : Format R) (tells : TellsSame format) (f : R → 
   open-marked marks text rest are from =
       open-behind from.front text rest from.joined
       (front-stays from.front (marked-left marks from.front are from.without))
-
-  -- a record that the change alone doesn't touch leaves its line
-  untouched-becomes :
-      (line : Line) (r : R) (now : List R)
-      → becoming_touches format r now (touches format []) ≡ false
-      → line_becomes format line r now ≡ line ∷ []
-  untouched-becomes line r [] untouched = absurd cc
-  untouched-becomes line r (s ∷ []) untouched =
-      stays format line s (format.same r s) (unchanged (format.same r s) untouched)
-  untouched-becomes line r (s ∷ t ∷ rest) untouched = absurd cc
-
-  -- by what a line reads as
-  untouched-by :
-      (line : Line) (found : Option R)
-      → ((r : R) → found ≡ Some r → touches format (Become f ∷ []) r ≡ false)
-      → (elim found [ None ↦ line ∷ [] | Some r ↦ line_becomes format line r (f r) ])
-      ≡ line ∷ []
-  untouched-by line None untouched = refl
-  untouched-by line (Some r) untouched =
-      untouched-becomes line r (f r) (untouched r refl)
-
-  -- lines with no record that the change alone touches stay
-  passed-stays :
-      (lines : List Line)
-      → AllByRecursion (λ line. IsUntouched format (Become f ∷ []) line.text) lines
-      → flat_map (becomes format f) lines ≡ lines
-  passed-stays [] left = refl
-  passed-stays (line ∷ lines) left =
-      ap (λ now. now ++ flat_map (becomes format f) lines)
-      (untouched-by line (format.read line.text) left.0)
-      ∙ ap (λ later. line ∷ later) (passed-stays lines left.1)
-
-  -- a file is open behind lines with no record that the change alone touches
-  pub open-passed :
-      (front : List Line) (text rest : List ℕ)
-      → lines_of text ≡ front ++ lines_of rest
-      → AllByRecursion (λ line. IsUntouched format (Become f ∷ []) line.text) front
-      → IsOpenFrom format f text rest
-  open-passed front text rest joined left =
-      open-behind front text rest joined (passed-stays front left)
 
   module _ (text behind : List ℕ) (from : IsOpenFrom format f text behind) where
     -- behind a line that is left

@@ -1,9 +1,7 @@
 pub mod SeenEdits
 pub mod Places
 pub mod OpenLines
-pub mod CheckedTexts
 pub mod Touching
-pub mod EditsByName
 pub mod GroupChanges
 pub mod GshadowChanges
 pub mod PasswdChanges
@@ -12,9 +10,7 @@ pub mod SubidChanges
 pub mod HashChanges
 pub mod Memberships
 pub mod Naming
-pub mod SingleEdits
 pub mod WrittenLines
 pub mod NameSets
-pub mod Reach
 pub mod LineFields
 pub mod Rewriting

@@ -1,6 +1,5 @@
 -- What becomes of a user in the lists of all groups (usermod(8), `-G`, `-a` and `-l`).
-use Rattle.std.specs.Prelude.{◌≡◌, ℕ, Bool, false, List, [], ◌∷◌, ◌++◌, map, bytes_eq, if◌then◌else◌}
-use Rattle.std.specs.List.{IsDistinct}
+use Rattle.std.specs.Prelude.{◌≡◌, ℕ, Bool, false, List, [], ◌∷◌, ◌++◌, map, if◌then◌else◌}
 use Rattle.std.specs.Vec.{vec_items}
 use Rattle.account_model.specs.declared.records.GroupRecord.{GroupRecord}
 use Rattle.account_model.specs.declared.records.GshadowRecord.{GshadowRecord}
@@ -48,12 +47,11 @@ gshadow_by membership r = record r {
   members = members_by membership r.name r.members;
 }
 
--- the user keeps its name, and joins or leaves none but these groups, of which no two are the same
+-- the user keeps its name, and joins or leaves none but these groups
 pub record ChangesOnlyIn (membership : Membership) (groups : List (List ℕ)) : Type 0 where
   pub name : membership.user ≡ membership.new_name
   pub others : (group : List ℕ) (members : List (List ℕ)) → is_listed group groups ≡ false
       → members_with membership.groups membership.user group members ≡ members
-  pub apart : IsDistinct bytes_eq groups
 
 -- the user keeps its name, and goes behind the members of the group
 pub record Adds (membership : Membership) (group : List ℕ) (members : List (List ℕ)) : Type 0 where

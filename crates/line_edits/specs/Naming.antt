@@ -1,6 +1,5 @@
 -- Which records a change may touch, by their names (passwd(5), shadow(5), group(5), gshadow(5)).
 use Rattle.std.specs.Prelude.{◌≡◌, ℕ, Bool, true, false, List, [], ◌∷◌, map, Option, None, Some, bytes_eq, if◌then◌else◌}
-use Rattle.std.specs.List.{IsDistinct}
 use Rattle.std.specs.Vec.{vec_items}
 use Rattle.account_model.specs.Format.{Format, is_named}
 use Rattle.account_model.specs.Text.{is_listed}
@@ -26,11 +25,10 @@ abbrev pub names_in : ChangedNames → List (List ℕ)
 names_in (One name) = name.now ∷ []
 names_in (Each names) = map vec_items names.now
 
--- f touches only records of these names, of which no two are the same
-pub record TouchesOnly {R : Type 0} (format : Format R) (f : R → List R) (names : List (List ℕ))
-    : Type 0 where
-  pub others : (r : R) → is_listed (format.name r) names ≡ false → f r ≡ r ∷ []
-  pub apart : IsDistinct bytes_eq names
+-- f touches only records of these names
+abbrev pub TouchesOnly : {R : Type 0} → Format R → (R → List R) → List (List ℕ) → Type 0
+TouchesOnly {R = R} format f names =
+    (r : R) → is_listed (format.name r) names ≡ false → f r ≡ r ∷ []
 
 -- a record of the name becomes what an act makes of it, and each other one stays
 abbrev pub changed_named : {R : Type 0} → Format R → List ℕ → (R → R) → R → List R

@@ -1,5 +1,5 @@
 // The edits of a table as data, and what a record has so that edits can be made of it.
-ghost use Rattle.std.specs.Prelude.{◌≡◌, true, List, [], ◌∷◌, None, IfOk, IfSome};
+ghost use Rattle.std.specs.Prelude.{◌≡◌, true, List, [], None, IfOk, IfSome};
 ghost use Rattle.account_model.specs.Written.{IsWritten};
 ghost use Rattle.acct_tables.specs.Marks.{marks_in};
 ghost use Rattle.line_edits.specs.Naming.{AreMarksOf, Leaves, TouchesOnly, names_in};
@@ -86,14 +86,6 @@ pub trait EditedRecord: TableRecord {
     fn touched_names(change: &Self::Change) -> Option<ChangedNames<'_>>
         ensures { IfSome result (λ names.
             TouchesOnly Self.format (becomes change.now) (names_in names)) };
-
-    /// Whether both changes surely are the same.
-    fn are_same(one: &Self::Change, other: &Self::Change) -> bool
-        ensures { result ≡ true → one.now ≡ other.now };
-
-    /// Whether the change surely leaves the record, by what can be seen without memory.
-    fn is_left(&self, change: &Self::Change) -> bool
-        ensures { result ≡ true → becomes change.now self.now ≡ self.now ∷ [] };
 
     // an empty line is no record
     ghost no_blank: { Self.TableRecord.format.read [] ≡ None };

@@ -104,14 +104,6 @@ impl EditedRecord for GroupRecord {
         }
     }
 
-    fn are_same(_one: &GroupChange, _other: &GroupChange) -> bool {
-        false
-    }
-
-    fn is_left(&self, _change: &GroupChange) -> bool {
-        false
-    }
-
     ghost no_blank = { refl };
 }
 

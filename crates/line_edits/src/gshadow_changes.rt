@@ -106,14 +106,6 @@ impl EditedRecord for GshadowRecord {
         }
     }
 
-    fn are_same(_one: &GshadowChange, _other: &GshadowChange) -> bool {
-        false
-    }
-
-    fn is_left(&self, _change: &GshadowChange) -> bool {
-        false
-    }
-
     ghost no_blank = { refl };
 }
 

@@ -3,17 +3,13 @@
 //!
 //! `edit` has the edits of a table as data, and what a record has so that they can be made of it;
 //! `group_changes` and its like what becomes of a record, and `joined_texts` what becomes of a group's
-//! line by its parts alone. `applied` carries edits out in the text of a file, one after another, each
-//! change by `line_changes` from the first line on that is in its `reach`. `multiple` finds the first
-//! record that they touch (`touches`) and whose name has several, among many edits by those that may
-//! touch its name (`edits_by_name`); `checked` does both, and searches the text for touched records once.
+//! line by its parts alone. `touching` tells whether an edit touches the record of a line. `applied`
+//! carries edits out in the text of a file, one after another, each change by `line_changes`.
 #![tactic(auto)]
 
 mod applied;
 mod changed_names;
-mod checked;
 mod edit;
-mod edits_by_name;
 mod fields;
 mod group_changes;
 mod gshadow_changes;
@@ -22,19 +18,15 @@ mod joined_texts;
 mod line_changes;
 mod lists;
 mod memberships;
-mod multiple;
 mod name_set;
 mod passwd_changes;
 mod primary_group;
-mod reach;
 mod shadow_changes;
 mod subid_changes;
-mod touched;
-mod touches;
+mod touching;
 
 pub use applied::edited_text;
 pub use changed_names::ChangedNames;
-pub use checked::{Checked, checked_text};
 pub use edit::{Becoming, Edit, EditedRecord, Rewritten};
 pub use fields::leaves_name;
 pub use group_changes::{GroupAct, GroupChange};
@@ -42,9 +34,9 @@ pub use gshadow_changes::{GshadowAct, GshadowChange};
 pub use hash_change::HashChange;
 pub use line_changes::changed_text;
 pub use memberships::{Membership, UserGroups};
-pub use multiple::{first_multiple, leaves};
 pub use name_set::NameSet;
 pub use passwd_changes::{PasswdAct, PasswdChange, UserFields};
 pub use primary_group::PrimaryGroup;
 pub use shadow_changes::{DaysChange, ShadowAct, ShadowChange, ShadowFields};
 pub use subid_changes::{RangeCut, SubidChange};
+pub use touching::{leaves, touches};

@@ -26,24 +26,8 @@ pub fn changed_text<R: EditedRecord + Drop>(
     ensures { IfOk result (λ bytes. bytes ≡ file_bytes
         (edited R.format (lines_of text.now) (model.Become (R.becomes change.now)))) }
 {
-    changed_from::<R>(alloc, text, text, change)
-}
-
-/// The same, given the text from a line on, where the change leaves the lines in front.
-pub(crate) fn changed_from<R: EditedRecord + Drop>(
-    alloc: Global,
-    text: &[u8],
-    rest: &[u8],
-    change: &R::Change,
-) -> Result<Bytes, AllocError>
-    requires written { IsWrittenEdit R.format (model.Become (R.becomes change.now)) }
-    requires front { IsOpenFrom R.format (R.becomes change.now) text.now rest.now }
-    ensures { IfOk result (λ bytes. bytes ≡ file_bytes
-        (edited R.format (lines_of text.now) (model.Become (R.becomes change.now)))) }
-{
     let mut made = Bytes::new(alloc);
-    made.push(&text[..text.len() - rest.len()])?;
-    let mut left = push_front::<R>(&mut made, rest, change)?;
+    let mut left = push_front::<R>(&mut made, text, change)?;
     'lines: while let Some(line) = left.take() {
         push_changed::<R>(alloc, &mut made, &line, change)?;
         left = push_front::<R>(&mut made, left.bytes(), change)?;

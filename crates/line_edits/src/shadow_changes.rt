@@ -1,5 +1,5 @@
 // What the tools do with records of shadow (shadow(5)).
-ghost use Rattle.std.specs.Prelude.{◌≡◌, true, None, Some, IfOk, OnOk, option_map, unwrap_or};
+ghost use Rattle.std.specs.Prelude.{◌≡◌, None, Some, IfOk, OnOk, option_map, unwrap_or};
 ghost use Rattle.acct_lines.specs.DaysValues.{days_held};
 ghost use Rattle.line_edits.specs.ShadowChanges.{given_days, shadow_after, with_shadow_fields};
 
@@ -158,56 +158,7 @@ impl EditedRecord for ShadowRecord {
         }
     }
 
-    fn are_same(one: &ShadowChange, other: &ShadowChange) -> bool {
-        match (one, other) {
-            (ShadowChange::Named(name, act), ShadowChange::Named(same, same_act)) => {
-                name.as_slice() == same.as_slice() && are_same_acts(act, same_act)
-            }
-            _ => false,
-        }
-    }
-
-    fn is_left(&self, change: &ShadowChange) -> bool {
-        match change {
-            ShadowChange::Named(_, act) => is_done(act, self),
-            ShadowChange::Remove(_) => false,
-        }
-    }
-
     ghost no_blank = { refl };
-}
-
-// Whether both acts surely are the same: a change of the hash or of the last change that is repeated.
-fn are_same_acts(act: &ShadowAct, other: &ShadowAct) -> bool
-    ensures { result ≡ true → act.now ≡ other.now }
-{
-    match (act, other) {
-        (ShadowAct::ChangeHash(change), ShadowAct::ChangeHash(same)) => change.is_same(same),
-        (ShadowAct::SetLastChange(day), ShadowAct::SetLastChange(same)) => *day == *same,
-        _ => false,
-    }
-}
-
-// Whether the record surely is as the act makes it.
-fn is_done(act: &ShadowAct, user: &ShadowRecord) -> bool
-    ensures { result ≡ true → shadow_after act.now user.now ≡ user.now }
-{
-    match act {
-        ShadowAct::SetHash(hash) => user.hash.as_slice() == hash.as_slice(),
-        ShadowAct::SetLastChange(day) => is_day(user.last_change, *day),
-        ShadowAct::ChangeHash(change) => change.leaves(user.hash.as_slice()),
-        ShadowAct::SetFields(_) => false,
-    }
-}
-
-// Whether the field holds this day.
-fn is_day(field: Option<u32>, day: u32) -> bool
-    ensures { result ≡ true → field ≡ Some day }
-{
-    match field {
-        Some(held) => held == day,
-        None => false,
-    }
 }
 
 // The record after the act.

@@ -99,14 +99,6 @@ impl EditedRecord for SubidRecord {
         }
     }
 
-    fn are_same(_one: &SubidChange, _other: &SubidChange) -> bool {
-        false
-    }
-
-    fn is_left(&self, _change: &SubidChange) -> bool {
-        false
-    }
-
     ghost no_blank = { refl };
 }
 

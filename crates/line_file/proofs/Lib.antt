@@ -1,3 +1,4 @@
 pub mod PlacedCells
 pub mod BegunLines
 pub mod KeptCells
+pub mod MarkedPlaces

@@ -1,8 +1,11 @@
 -- The lines of a table's file, with what stands in the place of each while edits change them
 -- (passwd(5), and likewise the other five tables). A place is the offset of the first byte of a line
 -- in the file; that of an added line is behind the file.
-use Rattle.std.specs.Prelude.{ℕ, ◌+◌, ◌<◌, ◌==◌, ◌||◌, true, nat_le, AllPairs, List, [], ◌∷◌, ◌++◌, find, flat_map, length, map, Option, if◌then◌else◌}
+use Rattle.std.specs.Prelude.{◌≡◌, ℕ, ◌+◌, ◌<◌, ◌==◌, ◌||◌, false, true, nat_le, AllPairs, List, [], ◌∷◌, ◌++◌, find, flat_map, length, map, Option, if◌then◌else◌}
+use Rattle.std.specs.List.{AllByRecursion}
 use Rattle.acct_text.specs.Lines.{Line, line_bytes}
+use Rattle.account_model.specs.Ids.{is_used}
+use Rattle.acct_tables.specs.Marks.{IsWithoutAll}
 use Rattle.line_file.specs.declared.cell.Cell.{Cell}
 
 -- its lines
@@ -46,3 +49,13 @@ text_added place text cells =
 -- the places go up
 abbrev pub ArePlaced : List Cell → Type 0
 ArePlaced cells = AllPairs (λ earlier later. earlier.place < later.place) cells
+
+-- the texts of a cell in another place than these have none of the marks
+abbrev pub IsMarkless : List (List ℕ) → List ℕ → Cell → Type 0
+IsMarkless marks places cell =
+    is_used places cell.place ≡ false → AllByRecursion (IsWithoutAll marks) cell.texts
+
+-- these places, which go up, have all texts with one of the marks
+pub record AreMarked (marks : List (List ℕ)) (cells : List Cell) (places : List ℕ) : Type 0 where
+  pub others : AllByRecursion (IsMarkless marks places) cells
+  pub ascending : AllPairs (λ earlier later. earlier < later) places

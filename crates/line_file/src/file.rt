@@ -2,13 +2,15 @@
 // tables).
 ghost use Rattle.std.specs.Prelude.{◌≡◌, ◌<◌, All, IfOk, IfSome, OnErr, OnOk};
 ghost use Rattle.acct_text.specs.Lines.{file_bytes, lines_of};
-ghost use Rattle.line_file.specs.Cells.{ArePlaced, cell_at, cells_from, lines_now, text_added, texts_put};
+ghost use Rattle.acct_tables.specs.Marks.{marks_in};
+ghost use Rattle.line_file.specs.Cells.{AreMarked, ArePlaced, cell_at, cells_from, lines_now, text_added, texts_put};
 
 use crate::cell_bytes::{most_bytes, push_lines};
 use crate::line_at::line_at;
+use crate::marked::marked_in;
 use crate::patch::{Patch, added_cell, cell_of, put_at, put_texts};
 use crate::{Cell, Cells};
-use acct_tables::Lines;
+use acct_tables::{Lines, Marks};
 use acct_text::Bytes;
 use indexmap::IndexMap;
 use std::alloc::{AllocError, Global};
@@ -122,6 +124,18 @@ impl LineFile {
         }
     }
 
+    /// The places of the lines that have one of the marks, from the first to the last; none where texts were
+    /// put or added. The lines between are passed over at once.
+    pub fn marked(&self, alloc: Global, marks: Marks<'_>) -> Result<Option<Vec<usize>>, AllocError>
+        ensures { IfOk result (λ places. IfSome places (λ places.
+            AreMarked (marks_in marks.entry) self.now places.items)) }
+    {
+        match self.kept_text() {
+            Some(text) => Ok(Some(marked_in(alloc, text, marks)?)),
+            None => Ok(None),
+        }
+    }
+
     /// The bytes of the lines that stand now, one behind the other.
     pub fn text(&self) -> Result<Bytes, AllocError>
         ensures { IfOk result (λ bytes. bytes ≡ file_bytes (lines_now self.now)) }
@@ -139,7 +153,8 @@ impl LineFile {
 
     // The bytes of the file where nothing was put into it and nothing added.
     fn kept_text(&self) -> Option<&[u8]>
-        ensures { IfSome result (λ text. text.now ≡ file_bytes (lines_now self.now)) }
+        ensures bytes { IfSome result (λ text. text.now ≡ file_bytes (lines_now self.now)) }
+        ensures cells { IfSome result (λ text. self.now ≡ cells_from 0 (lines_of text.now)) }
     {
         if self.are_ended || !self.patched.is_empty() || !self.added.is_empty() {
             return None;

@@ -11,6 +11,7 @@ mod cell_bytes;
 mod cells;
 mod file;
 mod line_at;
+mod marked;
 mod patch;
 
 pub use cell::{Cell, Texts};

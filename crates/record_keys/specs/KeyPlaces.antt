@@ -36,6 +36,10 @@ pub record Notes (keys : List ℕ) (spot : Spot) (before after : ℕ → Option 
 abbrev pub IsOfNone : (ℕ → Option (List ℕ)) → Type 0
 IsOfNone told = (key : ℕ) → told key ≡ Some []
 
+-- any place may have each key
+abbrev pub IsUntold : (ℕ → Option (List ℕ)) → Type 0
+IsUntold told = (key : ℕ) → told key ≡ None
+
 -- these are the places that are told of the key, from the first to the last
 pub record ArePlacesOf (told : ℕ → Option (List ℕ)) (key : ℕ) (places : List ℕ) : Type 0 where
   pub all : (place : ℕ) → MayBeAt told key place → is_used places place ≡ true

@@ -1,7 +1,7 @@
 // The places where records may have a key, told without a pass over the lines (passwd(5), shadow(5),
 // group(5), gshadow(5), subuid(5), subgid(5)).
 ghost use Rattle.std.specs.Prelude.{◌==◌, ◌≡◌, ℕ, ◌%◌, ◌<◌, ◌≤◌, ◌∷◌, [], false, length, option_map, IfOk, IfSome};
-ghost use Rattle.record_keys.specs.KeyPlaces.{ArePlacesOf, IsHeldWith, IsOfNone, Notes, listed_places, open_slot, told_places};
+ghost use Rattle.record_keys.specs.KeyPlaces.{ArePlacesOf, IsHeldWith, IsOfNone, IsUntold, Notes, listed_places, open_slot, told_places};
 
 use crate::place_lists::{ListedPlaces, PlaceLists};
 use std::alloc::{AllocError, Global};
@@ -56,6 +56,16 @@ impl KeyPlaces {
         let count = (bytes / 8).max(LEAST).min(GREATEST);
         Ok(KeyPlaces {
             slots: vec![in alloc; 0; count]?,
+            lists: PlaceLists::new(alloc),
+        })
+    }
+
+    /// The index that tells nothing: any place may have each key, whatever is noted.
+    pub fn untold(alloc: Global) -> Result<Self, AllocError>
+        ensures { IfOk result (λ index. IsUntold (told_places index)) }
+    {
+        Ok(KeyPlaces {
+            slots: vec![in alloc; OPEN; 1]?,
             lists: PlaceLists::new(alloc),
         })
     }

@@ -9,6 +9,6 @@ pub mod ReachLemmas
 pub mod EditedCells
 pub mod PutRecords
 pub mod TableLemmas
-pub mod SeveralNames
+pub mod MetRecords
 pub mod NamedPlaces
 pub mod ReachedNames

@@ -15,8 +15,10 @@ use Rattle.account_model.specs.Ids.{is_used}
 use Rattle.acct_tables.specs.TableLines.{text_is_named}
 use Rattle.line_file.specs.Cells.{ArePlaced, cell_at, cell_lines, lines_now, texts_put, with_texts}
 use Rattle.line_file.specs.declared.cell.Cell.{Cell}
+use Rattle.table.specs.Accepting.{is_accepted}
 use Rattle.table.specs.Changed.{text_instead, texts_with}
-use Rattle.table.specs.TableCells.{HoldsIn, HoldsOf, IsSound, Reaches, cells_there, has_named_in, records_read}
+use Rattle.table.specs.Met.{first_in}
+use Rattle.table.specs.TableCells.{HoldsIn, HoldsOf, IsSound, Reaches, cells_there, has_in, has_named_in, records_read}
 use Rattle.table.proofs.ChangedTexts.{instead-line, line_with}
 use Rattle.table.proofs.KeptCells.{elsewhere-put, found-place, sound-end}
 use Rattle.table.proofs.PlaceLemmas.{pairs-first, pairs-others, there-used}
@@ -34,7 +36,7 @@ some-found test (x ∷ xs) = elim (cases_Bool (test x)) [
 ]
 
 -- what holds of all holds of the first that passes
-first-holds :
+pub first-holds :
     {X : Type 0} (P : X → Type 0) (test : X → Bool) (xs : List X) (x : X)
     → AllByRecursion P xs
     → find test xs ≡ Some x
@@ -226,26 +228,93 @@ first-there test cells place (Some cell) there placed is first here =
     ∙ ap (λ place. cell_at place cells) (sym same)
     ∙ first-at test cells cell placed is
 
-module _ {R : Type 0} (format : Format R) (name : List ℕ) where
+module _ {R : Type 0} (format : Format R) (test : R → Bool) where
+  -- whether the text is a record that passes
+  abbrev passes : List ℕ → Bool
+  passes text = is_accepted test (format.read text)
+
   -- by what a text reads as
   any-by :
       (found : Option R) (records : List R)
-      → list_any (is_named format name) (cons_option found records)
-      ≡ ((elim found [ None ↦ false | Some r ↦ is_named format name r ])
-      || list_any (is_named format name) records)
+      → list_any test (cons_option found records)
+      ≡ (is_accepted test found || list_any test records)
   any-by None records = refl
   any-by (Some r) records = refl
 
-  -- a record of the name is among texts where one of these is such a record
-  any-read :
+  -- a record that passes is among texts where one of these is such a record
+  pub any-read :
       (texts : List (List ℕ))
-      → list_any (is_named format name) (records_read format texts)
-      ≡ list_any (text_is_named format name) texts
+      → list_any test (records_read format texts) ≡ list_any passes texts
   any-read [] = refl
   any-read (text ∷ texts) =
       any-by (format.read text) (records_read format texts)
-      ∙ ap (λ later. text_is_named format name text || later) (any-read texts)
+      ∙ ap (λ later. passes text || later) (any-read texts)
 
+  -- ---- Place by place
+
+  -- the cell in the first place is the first
+  pub met-first :
+      (place : ℕ) (cells later : List Cell) (there : Option Cell)
+      → cell_at place cells ≡ there
+      → list_any (has_in format test) (cons_option there []) ≡ true
+      → first_in (has_in format test) (cons_option there [] ++ later) ≡ Some place
+  met-first place cells later None is has = absurd cc
+  met-first place cells later (Some cell) is has =
+      let here : has_in format test cell ≡ true =
+      elim (or_cases (has_in format test cell) false has) [
+        | inl is ↦ is
+        | inr never ↦ absurd cc
+      ] in
+      rw here (ap Some (found-place place cells cell is))
+
+  -- it isn't
+  pub passed-first :
+      (later : List Cell) (there : Option Cell)
+      → list_any (has_in format test) (cons_option there []) ≡ false
+      → find (has_in format test) (cons_option there [] ++ later)
+      ≡ find (has_in format test) later
+  passed-first later None none = refl
+  passed-first later (Some cell) none =
+      rw (or_parts (has_in format test cell) false none).0 refl
+
+  -- texts with a record that passes reach their place
+  pub reached-by :
+      (places : List ℕ) (place : ℕ) (texts : List (List ℕ))
+      → AllByRecursion (HoldsOf format
+      (λ r. test r ≡ true → is_used places place ≡ true)) texts
+      → list_any passes texts ≡ true
+      → is_used places place ≡ true
+  reached-by places place [] reached has = absurd cc
+  reached-by places place (text ∷ texts) reached has =
+      elim (or_cases (passes text) (list_any passes texts) has) [
+        | inl here ↦ by (format.read text) reached.0 here
+        | inr later ↦ reached-by places place texts reached.1 later
+      ]
+    where
+      by : (found : Option R)
+          → ((r : R) → found ≡ Some r → test r ≡ true → is_used places place ≡ true)
+          → is_accepted test found ≡ true
+          → is_used places place ≡ true
+      by None reached here = absurd cc
+      by (Some r) reached here = reached r refl here
+
+  -- what is found among the reached cells is found among all
+  pub first-reached :
+      (cells : List Cell) (places : List ℕ)
+      → Reaches format test cells places
+      → find (has_in format test) (cells_there cells places) ≡ find (has_in format test) cells
+  first-reached cells places reached =
+      ap (find (has_in format test))
+      (there-used places cells reached.ascending reached.placed)
+      ∙ find-among (has_in format test) (λ cell. is_used places cell.place) cells
+      (All-weaker (λ cell. HoldsIn format
+      (λ r. test r ≡ true → is_used places cell.place ≡ true) cell)
+      (λ cell. has_in format test cell ≡ true → is_used places cell.place ≡ true)
+      (λ cell here has. reached-by places cell.place cell.texts here has) cells reached.all)
+
+-- ---- A name
+
+module _ {R : Type 0} (format : Format R) (name : List ℕ) where
   -- among those of cells where one of these has one
   any-in :
       (cells : List Cell)
@@ -264,7 +333,7 @@ module _ {R : Type 0} (format : Format R) (name : List ℕ) where
   has-cells cells =
       some-found (is_named format name) (records_of format (lines_now cells))
       ∙ ap (list_any (is_named format name)) (all-read format cells)
-      ∙ any-read (texts_in cells)
+      ∙ any-read format (is_named format name) (texts_in cells)
       ∙ any-in cells
       ∙ sym (some-found (has_named_in format name) cells)
 
@@ -280,69 +349,3 @@ module _ {R : Type 0} (format : Format R) (name : List ℕ) where
           → is_some found ≡ is_some (option_map (λ (cell : Cell). cell.place) found)
       by None = refl
       by (Some cell) = refl
-
-  -- ---- Place by place
-
-  -- the cell in the first place is the first
-  pub met-first :
-      (place : ℕ) (cells later : List Cell) (there : Option Cell)
-      → cell_at place cells ≡ there
-      → list_any (has_named_in format name) (cons_option there []) ≡ true
-      → option_map (λ cell. cell.place)
-      (find (has_named_in format name) (cons_option there [] ++ later))
-      ≡ Some place
-  met-first place cells later None is has = absurd cc
-  met-first place cells later (Some cell) is has =
-      let here : has_named_in format name cell ≡ true =
-      elim (or_cases (has_named_in format name cell) false has) [
-        | inl is ↦ is
-        | inr never ↦ absurd cc
-      ] in
-      rw here (ap Some (found-place place cells cell is))
-
-  -- it isn't
-  pub passed-first :
-      (later : List Cell) (there : Option Cell)
-      → list_any (has_named_in format name) (cons_option there []) ≡ false
-      → find (has_named_in format name) (cons_option there [] ++ later)
-      ≡ find (has_named_in format name) later
-  passed-first later None none = refl
-  passed-first later (Some cell) none =
-      rw (or_parts (has_named_in format name cell) false none).0 refl
-
-  -- texts with a record of the name reach their place
-  pub reached-by :
-      (places : List ℕ) (place : ℕ) (texts : List (List ℕ))
-      → AllByRecursion (HoldsOf format
-      (λ r. is_named format name r ≡ true → is_used places place ≡ true)) texts
-      → list_any (text_is_named format name) texts ≡ true
-      → is_used places place ≡ true
-  reached-by places place [] reached has = absurd cc
-  reached-by places place (text ∷ texts) reached has =
-      elim (or_cases (text_is_named format name text)
-      (list_any (text_is_named format name) texts) has) [
-        | inl here ↦ by (format.read text) reached.0 here
-        | inr later ↦ reached-by places place texts reached.1 later
-      ]
-    where
-      by : (found : Option R)
-          → ((r : R) → found ≡ Some r → is_named format name r ≡ true → is_used places place ≡ true)
-          → (elim found [ None ↦ false | Some r ↦ is_named format name r ]) ≡ true
-          → is_used places place ≡ true
-      by None reached here = absurd cc
-      by (Some r) reached here = reached r refl here
-
-  -- what is found among the reached cells is found among all
-  pub first-reached :
-      (cells : List Cell) (places : List ℕ)
-      → Reaches format (is_named format name) cells places
-      → find (has_named_in format name) (cells_there cells places)
-      ≡ find (has_named_in format name) cells
-  first-reached cells places reached =
-      ap (find (has_named_in format name))
-      (there-used places cells reached.ascending reached.placed)
-      ∙ find-among (has_named_in format name) (λ cell. is_used places cell.place) cells
-      (All-weaker (λ cell. HoldsIn format
-      (λ r. is_named format name r ≡ true → is_used places cell.place ≡ true) cell)
-      (λ cell. has_named_in format name cell ≡ true → is_used places cell.place ≡ true)
-      (λ cell here has. reached-by places cell.place cell.texts here has) cells reached.all)

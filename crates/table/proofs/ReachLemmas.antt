@@ -1,25 +1,29 @@
 -- Claims: the places that an index tells of a key reach each record that has it (`told-reaches`), and so
--- do all places (`all-reaches`); what reaches the records that one test accepts reaches those that
--- accept no more (`reaches-weaker`), as the records of a name by its own key (`named-reached`). To change
--- the records there is to change all (`reached-changes`). Way: record by record.
-use Rattle.std.proofs.Common.{◌≡◌, ◌∙◌, ℕ, ◌<◌, Bool, true, false, eqb, List, [], ◌∷◌, length, map, refl, sym, ap, subst, arith}
-use Rattle.std.specs.Prelude.{AllPairs, IfSome, Option, None, Some, flat_map}
+-- do all places (`all-reaches`); those of marked lines reach the records that the marks tell
+-- (`marked-reaches`, `marked-touches`). The records of a name are reached by its own key
+-- (`named-reached`). To change the records that a change touches is to change all (`reached-changes`).
+-- Way: record by record.
+use Rattle.std.proofs.Common.{◌≡◌, ◌∙◌, ℕ, ◌<◌, Bool, true, false, eqb, List, [], ◌∷◌, length, map, refl, sym, ap, subst, inl, inr, arith}
+use Rattle.std.specs.Prelude.{AllPairs, Option, flat_map}
 use Rattle.std.specs.List.{AllByRecursion}
 use Rattle.std.proofs.ByRecursion.{All-weaker}
-use Rattle.std.proofs.lemmas.Bool.{eq-eqb, false_from_ne_true, or_left, or_right}
+use Rattle.std.proofs.lemmas.Bool.{cases_Bool, eq-eqb, false_from_ne_true, or_left, or_right}
 use Rattle.std.proofs.lemmas.List.{get_or-map, length-map}
 use Rattle.std.proofs.lemmas.Slice.Eq.{bytes_eq-Decides}
 use Rattle.account_model.specs.Edits.{becomes}
 use Rattle.account_model.specs.Format.{Format, is_named}
 use Rattle.account_model.specs.Ids.{is_used}
 use Rattle.account_model.specs.RecordEdits.{TellsSame}
-use Rattle.line_file.specs.Cells.{ArePlaced, lines_now}
+use Rattle.acct_tables.specs.Marks.{IsWithoutAll}
+use Rattle.line_edits.specs.Naming.{AreMarksOf}
+use Rattle.line_file.specs.Cells.{AreMarked, ArePlaced, IsMarkless, lines_now}
 use Rattle.line_file.specs.declared.cell.Cell.{Cell}
 use Rattle.record_keys.specs.KeyPlaces.{ArePlacesOf, has_key}
-use Rattle.record_keys.specs.Keys.{HaveOwnKeys, Needs, own_key}
+use Rattle.record_keys.specs.Keys.{HaveOwnKeys, own_key}
 use Rattle.table.specs.Changed.{changed_there}
-use Rattle.table.specs.TableCells.{AreKept, HoldsIn, HoldsOf, HoldsThere, IsSound, IsTold, Reaches, TouchesAt, has_asked}
+use Rattle.table.specs.TableCells.{AreKept, HoldsIn, HoldsOf, HoldsThere, IsSound, IsTold, Reaches, TouchesAt}
 use Rattle.table.proofs.ChangedTexts.{all-changed}
+use Rattle.table.proofs.EditedCells.{both-facts}
 
 module _ {R : Type 0} (format : Format R) where
   -- what holds of each record and its place, in other words
@@ -34,6 +38,36 @@ module _ {R : Type 0} (format : Format R) where
       (λ cell. HoldsIn format (Q cell.place) cell)
       (λ cell here. All-weaker (HoldsOf format (P cell.place)) (HoldsOf format (Q cell.place))
       (λ text is r reads. weaker cell.place r (is r reads)) cell.texts here) cells holds
+
+  -- what holds of every record holds of those that stand in places
+  pub there-all :
+      (P : ℕ → R → Type 0) (cells : List Cell)
+      → ((place : ℕ) (r : R) → P place r)
+      → HoldsThere format P cells
+  there-all P [] holds = tt
+  there-all P (cell ∷ cells) holds = (texts-all cell.texts, there-all P cells holds)
+    where
+      texts-all : (texts : List (List ℕ)) → AllByRecursion (HoldsOf format (P cell.place)) texts
+      texts-all [] = tt
+      texts-all (text ∷ texts) = ((λ r reads. holds cell.place r), texts-all texts)
+
+  -- two facts of each record are a third
+  pub there-both :
+      (P Q S : ℕ → R → Type 0)
+      → ((place : ℕ) (r : R) → P place r → Q place r → S place r)
+      → (cells : List Cell)
+      → HoldsThere format P cells
+      → HoldsThere format Q cells
+      → HoldsThere format S cells
+  there-both P Q S both cells first second =
+      both-facts (λ cell. HoldsIn format (P cell.place) cell)
+      (λ cell. HoldsIn format (Q cell.place) cell) (λ cell. HoldsIn format (S cell.place) cell)
+      (λ cell one other.
+      both-facts (HoldsOf format (P cell.place)) (HoldsOf format (Q cell.place))
+      (HoldsOf format (S cell.place))
+      (λ text one other r reads. both cell.place r (one r reads) (other r reads))
+      cell.texts one other)
+      cells first second
 
   -- fewer records are reached too
   pub reaches-weaker :
@@ -55,10 +89,10 @@ module _ {R : Type 0} (format : Format R) where
     pub named-reached :
         (name : List ℕ) (cells : List Cell) (places : List ℕ)
         → HaveOwnKeys format keys_of
-        → Reaches format (has_asked keys_of (Some (own_key name))) cells places
+        → Reaches format (λ r. has_key (own_key name) (keys_of r)) cells places
         → Reaches format (is_named format name) cells places
     named-reached name cells places own reached =
-        reaches-weaker (is_named format name) (has_asked keys_of (Some (own_key name))) cells places
+        reaches-weaker (is_named format name) (λ r. has_key (own_key name) (keys_of r)) cells places
         (λ r named.
         subst (λ name. has_key (own_key name) (keys_of r) ≡ true)
         ((bytes_eq-Decides (format.name r) name).0 named) (own r))
@@ -69,7 +103,7 @@ module _ {R : Type 0} (format : Format R) where
         (told : ℕ → Option (List ℕ)) (key : ℕ) (cells : List Cell) (places : List ℕ)
         → AreKept format keys_of told cells
         → ArePlacesOf told key places
-        → Reaches format (has_asked keys_of (Some key)) cells places
+        → Reaches format (λ r. has_key key (keys_of r)) cells places
     told-reaches told key cells places kept are = record {
       all = there-weaker (IsTold keys_of told)
           (λ place r. has_key key (keys_of r) ≡ true → is_used places place ≡ true)
@@ -142,31 +176,99 @@ all-reaches format test cells sound placed = record {
     each format test places place used (text ∷ texts) =
         ((λ r reads passes. used), each format test places place used texts)
 
--- ---- Changes
-
--- a record that lacks the key which a change needs, where one is known, is left
-pub left-lacking :
-    {R : Type 0} (keys_of : R → List ℕ) (f : R → List R) (key : Option ℕ) (r : R)
-    → IfSome key (Needs keys_of f)
-    → has_asked keys_of key r ≡ false
-    → f r ≡ r ∷ []
-left-lacking keys_of f None r needs lacks = absurd cc
-left-lacking keys_of f (Some key) r needs lacks = needs r lacks
-
--- so a change touches records in the places that its key reaches
-pub key-touches :
-    {R : Type 0} (format : Format R) (keys_of : R → List ℕ) (f : R → List R) (key : Option ℕ)
-    (cells : List Cell) (places : List ℕ)
-    → IfSome key (Needs keys_of f)
-    → Reaches format (has_asked keys_of key) cells places
-    → TouchesAt format f cells places
-key-touches format keys_of f key cells places needs reached = record {
-  test = has_asked keys_of key;
-  others = λ r. left-lacking keys_of f key r needs;
-  reaches = reached;
+-- so they have all texts with marks
+pub all-marked :
+    (marks : List (List ℕ)) (cells : List Cell)
+    → ArePlaced cells
+    → AreMarked marks cells (places_in cells)
+all-marked marks cells placed = record {
+  others = All-weaker (λ cell. is_used (places_in cells) cell.place ≡ true)
+      (IsMarkless marks (places_in cells))
+      (λ cell used unused. let both : true ≡ false = sym used ∙ unused in absurd cc)
+      cells (used-all cells);
+  ascending = places-ascend cells placed;
 }
 
--- and to change at these places is to change all lines
+-- ---- Marked lines
+
+module _ {R : Type 0} (format : Format R) (marks : List (List ℕ)) (cells : List Cell)
+    (places : List ℕ) (marked : AreMarked marks cells places) where
+  -- what holds of each record of a line without marks holds of those in other places
+  marked-hold :
+      (P : R → Type 0)
+      → ((text : List ℕ) → IsWithoutAll marks text → HoldsOf format P text)
+      → HoldsThere format (λ place r. is_used places place ≡ false → P r) cells
+  marked-hold P holds =
+      All-weaker (IsMarkless marks places)
+      (λ cell. HoldsIn format (λ r. is_used places cell.place ≡ false → P r) cell)
+      (λ cell markless. elim (cases_Bool (is_used places cell.place)) [
+        | inl used ↦ each cell.texts
+            (λ text r reads unused. let both : true ≡ false = sym used ∙ unused in absurd cc)
+        | inr unused ↦ All-weaker (IsWithoutAll marks)
+            (HoldsOf format (λ r. is_used places cell.place ≡ false → P r))
+            (λ text without r reads unused. holds text without r reads)
+            cell.texts (markless unused)
+      ])
+      cells marked.others
+    where
+      each :
+          {Q : List ℕ → Type 0}
+          (texts : List (List ℕ)) → ((text : List ℕ) → Q text) → AllByRecursion Q texts
+      each [] holds = tt
+      each {Q = Q} (text ∷ texts) holds = (holds text, each {Q = Q} texts holds)
+
+  module _ (sound : AllByRecursion IsSound cells) (placed : ArePlaced cells) where
+    -- a change is at lines with its marks
+    pub marked-touches :
+        (f : R → List R) → AreMarksOf format f marks → TouchesAt format f cells places
+    marked-touches f are = record {
+      others = marked-hold (λ r. f r ≡ r ∷ []) are;
+      ascending = marked.ascending;
+      sound = sound;
+      placed = placed;
+    }
+
+    -- records that a test accepts are
+    pub marked-reaches :
+        (test : R → Bool)
+        → ((text : List ℕ) → IsWithoutAll marks text → HoldsOf format (λ r. test r ≡ false) text)
+        → Reaches format test cells places
+    marked-reaches test fails = record {
+      all = there-weaker format (λ place r. is_used places place ≡ false → test r ≡ false)
+          (λ place r. test r ≡ true → is_used places place ≡ true)
+          (λ place r others passes. so (is_used places place) (test r) others passes)
+          cells (marked-hold (λ r. test r ≡ false) fails);
+      ascending = marked.ascending;
+      sound = sound;
+      placed = placed;
+    }
+      where
+        so : (used passes : Bool) → (used ≡ false → passes ≡ false) → passes ≡ true → used ≡ true
+        so true passes others is = refl
+        so false passes others is = let both : true ≡ false = sym is ∙ others refl in absurd cc
+
+-- ---- Changes
+
+-- where records are reached without which a change leaves all, it touches none elsewhere
+pub reached-touches :
+    {R : Type 0} (format : Format R) (f : R → List R) (test : R → Bool) (cells : List Cell)
+    (places : List ℕ)
+    → ((r : R) → test r ≡ false → f r ≡ r ∷ [])
+    → Reaches format test cells places
+    → TouchesAt format f cells places
+reached-touches format f test cells places left reached = record {
+  others = there-weaker format (λ place r. test r ≡ true → is_used places place ≡ true)
+      (λ place r. is_used places place ≡ false → f r ≡ r ∷ [])
+      (λ place r reaches unused. left r
+      (false_from_ne_true (test r) (λ has.
+      let both : true ≡ false = sym (reaches has) ∙ unused in absurd cc)))
+      cells reached.all;
+  ascending = reached.ascending;
+  sound = reached.sound;
+  placed = reached.placed;
+}
+
+-- to change at these places is to change all lines
 pub reached-changes :
     {R : Type 0} (format : Format R) (f : R → List R) (cells : List Cell)
     → TellsSame format
@@ -177,12 +279,4 @@ pub reached-changes :
     → lines_now (changed_there format f slice cells) ≡ flat_map (becomes format f) (lines_now cells)
 reached-changes format f cells tells places touches slice same =
     ap (λ slice. lines_now (changed_there format f slice cells)) same
-    ∙ all-changed format f places cells tells touches.reaches.sound
-    (there-weaker format
-    (λ place r. touches.test r ≡ true → is_used places place ≡ true)
-    (λ place r. is_used places place ≡ false → f r ≡ r ∷ [])
-    (λ place r reaches unused.
-    touches.others r
-    (false_from_ne_true (touches.test r) (λ has.
-    let both : true ≡ false = sym (reaches has) ∙ unused in absurd cc)))
-    cells touches.reaches.all)
+    ∙ all-changed format f places cells tells touches.sound touches.others

@@ -17,8 +17,7 @@ use Rattle.line_file.specs.declared.cell.Cell.{Cell}
 use Rattle.record_keys.specs.KeyPlaces.{ArePlacesOf}
 use Rattle.record_keys.proofs.FoundPlaces.{found-places}
 use Rattle.table.specs.TableCells.{IsSound, Reaches, ReachesNames, TouchesAt}
-use Rattle.table.proofs.ReachLemmas.{there-weaker}
-use Rattle.table.proofs.SeveralNames.{there-all, there-both}
+use Rattle.table.proofs.ReachLemmas.{reached-touches, there-all, there-both, there-weaker}
 
 -- the last of several has what none before it has
 last-has :
@@ -87,8 +86,6 @@ module _ {R : Type 0} (format : Format R) (cells : List Cell) where
       → TouchesOnly format f names
       → Reaches format (λ r. is_listed (format.name r) names) cells places
       → TouchesAt format f cells places
-  names-touch f names places touches reached = record {
-    test = λ r. is_listed (format.name r) names;
-    others = touches.others;
-    reaches = reached;
-  }
+  names-touch f names places touches reached =
+      reached-touches format f (λ r. is_listed (format.name r) names) cells places touches
+      reached

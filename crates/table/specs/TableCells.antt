@@ -4,14 +4,14 @@ use Rattle.std.specs.Prelude.{◌≡◌, ℕ, ◌<◌, ◌≤◌, AllPairs, Bool
 use Rattle.std.specs.List.{AllByRecursion, cons_option, list_any}
 use Rattle.acct_text.specs.Bytes.{newline}
 use Rattle.acct_text.specs.Pieces.{Lacks}
-use Rattle.account_model.specs.Edits.{is_multiple}
-use Rattle.account_model.specs.Format.{Format, records_of}
+use Rattle.account_model.specs.Format.{Format}
 use Rattle.account_model.specs.Ids.{is_used}
 use Rattle.account_model.specs.Text.{is_listed}
 use Rattle.acct_tables.specs.TableLines.{text_is_named}
-use Rattle.line_file.specs.Cells.{ArePlaced, cell_at, lines_now}
+use Rattle.line_file.specs.Cells.{ArePlaced, cell_at}
 use Rattle.line_file.specs.declared.cell.Cell.{Cell}
 use Rattle.record_keys.specs.KeyPlaces.{MayBeAt, has_key}
+use Rattle.table.specs.Accepting.{is_accepted}
 
 -- ---- Records in places
 
@@ -26,11 +26,6 @@ HoldsIn format P cell = AllByRecursion (HoldsOf format P) cell.texts
 -- P holds of each record and its place
 abbrev pub HoldsThere : {R : Type 0} → Format R → (ℕ → R → Type 0) → List Cell → Type 0
 HoldsThere format P cells = AllByRecursion (λ cell. HoldsIn format (P cell.place) cell) cells
-
--- P holds of each record whose name several have
-abbrev pub HoldsOfSeveral : {R : Type 0} → Format R → (R → Type 0) → List Cell → Type 0
-HoldsOfSeveral format P cells = HoldsThere format
-    (λ place r. is_multiple format (records_of format (lines_now cells)) r ≡ true → P r) cells
 
 -- the index tells at the place of each key of the record
 abbrev pub IsTold :
@@ -69,6 +64,10 @@ texts_there cells places = flat_map (λ cell. cell.texts) (cells_there cells pla
 abbrev pub records_read : {R : Type 0} → Format R → List (List ℕ) → List R
 records_read format texts = filter_map format.read texts
 
+-- whether a record that passes the test stands in the place
+abbrev pub has_in : {R : Type 0} → Format R → (R → Bool) → Cell → Bool
+has_in format test cell = list_any (λ text. is_accepted test (format.read text)) cell.texts
+
 -- whether a record of the name stands in the place
 abbrev pub has_named_in : {R : Type 0} → Format R → List ℕ → Cell → Bool
 has_named_in format name cell = list_any (text_is_named format name) cell.texts
@@ -80,11 +79,6 @@ has_named_at format name cells place =
 
 -- ---- Which places are reached
 
--- whether the record has the key; where none is asked for, each does
-abbrev pub has_asked : {R : Type 0} → (R → List ℕ) → Option ℕ → R → Bool
-has_asked keys_of None r = true
-has_asked keys_of (Some key) r = has_key key (keys_of r)
-
 -- Each record that the test accepts stands in one of these places, which go up; and the cells are sound
 -- and in the order of their places.
 pub record Reaches {R : Type 0} (format : Format R) (test : R → Bool) (cells : List Cell)
@@ -94,13 +88,14 @@ pub record Reaches {R : Type 0} (format : Format R) (test : R → Bool) (cells :
   pub sound : AllByRecursion IsSound cells
   pub placed : ArePlaced cells
 
--- each record that f doesn't leave stands in one of these places
+-- f leaves each record elsewhere than in these places, which go up; and the cells are sound and in the
+-- order of their places
 pub record TouchesAt {R : Type 0} (format : Format R) (f : R → List R) (cells : List Cell)
     (places : List ℕ) : Type 0 where
-  -- which records it may touch
-  pub test : R → Bool
-  pub others : (r : R) → test r ≡ false → f r ≡ r ∷ []
-  pub reaches : Reaches format test cells places
+  pub others : HoldsThere format (λ place r. is_used places place ≡ false → f r ≡ r ∷ []) cells
+  pub ascending : AllPairs (λ earlier later. earlier < later) places
+  pub sound : AllByRecursion IsSound cells
+  pub placed : ArePlaced cells
 
 -- each record of one of these names stands in one of these places, in whatever order
 abbrev pub ReachesNames :

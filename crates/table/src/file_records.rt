@@ -1,15 +1,18 @@
 // Records of a table's file by passes over its bytes, and its edits (passwd(5), shadow(5), group(5),
 // gshadow(5), subuid(5), subgid(5)).
 ghost use Rattle.std.specs.Prelude.{◌≡◌, filter, IfOk};
-ghost use Rattle.account_model.specs.Format.{is_named};
+ghost use Rattle.acct_text.specs.Lines.{lines_of};
+ghost use Rattle.account_model.specs.Format.{is_named, records_of};
 ghost use Rattle.account_model.specs.Tables.{table_records};
-ghost use Rattle.table.specs.TableEdits.{AreWritten, table_by};
+ghost use Rattle.line_file.specs.Cells.{cells_from};
+ghost use Rattle.table.specs.TableEdits.{AreWritten, multiple_by, table_by};
 
+use crate::keyed_cells::KeyedCells;
 use crate::named_texts::push_named;
 use crate::search::text_of;
-use acct_tables::Lines;
+use acct_tables::{Lines, MANY, Marks, from_marks};
 use acct_text::Bytes;
-use line_edits::{Edit, edited_text};
+use line_edits::{ChangedNames, Edit, edited_text};
 use record_keys::KeyedRecord;
 use std::alloc::{AllocError, Global};
 
@@ -28,6 +31,65 @@ pub(crate) fn named_in<R: KeyedRecord + Drop>(
         push_named(alloc, &mut found, line.text, name)?;
     }
     Ok(found)
+}
+
+/// The name of the first record of a file that the edits touch and whose name has several records.
+pub(crate) fn multiple_in<R: KeyedRecord + Drop>(
+    alloc: Global,
+    text: &Bytes,
+    edits: &[Edit<R, R::Change>],
+) -> Result<Option<Bytes>, AllocError>
+    requires { AreWritten R.format R.becomes edits.now }
+    ensures { IfOk result (λ name. name ≡
+        multiple_by R.format R.becomes edits.now (records_of R.format (lines_of text.now))) }
+{
+    let copy = Bytes::of(alloc, text.as_slice())?;
+    let cells = cells_for(alloc, copy, edits)?;
+    cells.first_multiple(alloc, edits)
+}
+
+// The lines of a file, with an index where the edits are many or may touch many records.
+fn cells_for<R: KeyedRecord + Drop>(
+    alloc: Global,
+    text: Bytes,
+    edits: &[Edit<R, R::Change>],
+) -> Result<KeyedCells<R>, AllocError>
+    ensures { IfOk result (λ cells. cells ≡ cells_from 0 (lines_of text)) }
+{
+    if edits.len() >= MANY
+        || edits
+            .iter()
+            .any(|edit| may_touch_many::<R>(text.as_slice(), edit))
+    {
+        return KeyedCells::of(alloc, text);
+    }
+    KeyedCells::untold(alloc, text)
+}
+
+// Whether the edit may touch many records, of more than one name.
+fn may_touch_many<R: KeyedRecord>(text: &[u8], edit: &Edit<R, R::Change>) -> bool {
+    let Edit::Become(change) = edit else {
+        return false;
+    };
+    match (R::touched_names(change), R::marks(change)) {
+        (Some(ChangedNames::One(_)), _) => false,
+        (_, Some(marks)) => are_many_marked(text, marks),
+        (_, None) => true,
+    }
+}
+
+// Whether so many lines have one of the marks that an index of all saves time.
+fn are_many_marked(text: &[u8], marks: Marks<'_>) -> bool {
+    let mut count = 0;
+    let mut left = Lines::of(from_marks(text, marks));
+    'lines: while left.take().is_some() {
+        count += 1;
+        if count == MANY {
+            return true;
+        }
+        left = Lines::of(from_marks(left.bytes(), marks));
+    }
+    false
 }
 
 /// The file after the edits, in their order; an absent one stays absent.

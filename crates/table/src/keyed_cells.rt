@@ -1,15 +1,17 @@
 // The lines of a table's file with an index of where records may have a key: what is found in them
 // (passwd(5), shadow(5), group(5), gshadow(5), subuid(5), subgid(5)). A look-up reads the texts in the
 // places that the index tells of its key, as no other text is a record with the key.
-ghost use Rattle.std.specs.Prelude.{◌≡◌, filter, find, map, nat_le, IfOk};
+ghost use Rattle.std.specs.Prelude.{◌≡◌, Bool, filter, find, map, nat_le, IfOk, IfSome};
 ghost use Rattle.std.specs.List.{list_any};
 ghost use Rattle.std.specs.Vec.{vec_items};
 ghost use Rattle.acct_text.specs.Lines.{file_bytes, lines_of};
 ghost use Rattle.account_model.specs.Format.{count_named, find_named, has_named, is_named, records_of};
 ghost use Rattle.account_model.specs.Text.{is_listed};
 ghost use Rattle.acct_tables.specs.SeenLines.{AreOfFile};
-ghost use Rattle.line_file.specs.Cells.{cells_from, lines_now};
-ghost use Rattle.table.specs.TableCells.{Reaches, TouchesAt, has_asked, has_named_at};
+ghost use Rattle.acct_tables.specs.Marks.{marks_in};
+ghost use Rattle.line_file.specs.Cells.{AreMarked, cells_from, lines_now};
+ghost use Rattle.record_keys.specs.KeyPlaces.{has_key};
+ghost use Rattle.table.specs.TableCells.{Reaches, TouchesAt, has_named_at};
 
 use crate::gathering::{all_places, gathered};
 use crate::named_texts::{
@@ -17,7 +19,7 @@ use crate::named_texts::{
 };
 use crate::search::{RecordTest, first_passing};
 use crate::texts_there::TextsThere;
-use acct_tables::read_record;
+use acct_tables::{Marks, read_record};
 use acct_text::Bytes;
 use line_edits::ChangedNames;
 use line_file::LineFile;
@@ -30,6 +32,8 @@ use std::marker::{Model, PhantomData};
 pub(crate) struct KeyedCells<R: KeyedRecord> {
     pub(crate) file: LineFile,
     pub(crate) keys: KeyPlaces,
+    // whether the index tells of the records, as it does unless it lacks memory
+    is_indexed: bool,
     // so many bytes had the file
     bytes: usize,
     // edits came to so many places by keys
@@ -43,6 +47,7 @@ impl<R: KeyedRecord + Drop> Drop for KeyedCells<R> {
         let KeyedCells {
             file: _,
             keys: _,
+            is_indexed: _,
             bytes: _,
             worn: _,
             record: _,
@@ -64,7 +69,7 @@ impl<R: KeyedRecord> Model for KeyedCells<R> {
 }
 
 impl<R: KeyedRecord + Drop> KeyedCells<R> {
-    /// The lines of a file with these bytes, in one pass.
+    /// The lines of a file with these bytes, and the index of them, in one pass.
     pub(crate) fn of(alloc: Global, text: Bytes) -> Result<Self, AllocError>
         ensures { IfOk result (λ cells. cells ≡ cells_from 0 (lines_of text)) }
     {
@@ -74,6 +79,22 @@ impl<R: KeyedRecord + Drop> KeyedCells<R> {
         Ok(KeyedCells {
             file,
             keys,
+            is_indexed: true,
+            bytes,
+            worn: 0,
+            record: PhantomData,
+        })
+    }
+
+    /// The lines without an index, of which nothing is looked at: a call takes a pass over them.
+    pub(crate) fn untold(alloc: Global, text: Bytes) -> Result<Self, AllocError>
+        ensures { IfOk result (λ cells. cells ≡ cells_from 0 (lines_of text)) }
+    {
+        let bytes = text.as_slice().len();
+        Ok(KeyedCells {
+            file: LineFile::of(alloc, text),
+            keys: KeyPlaces::untold(alloc)?,
+            is_indexed: false,
             bytes,
             worn: 0,
             record: PhantomData,
@@ -93,30 +114,51 @@ impl<R: KeyedRecord + Drop> KeyedCells<R> {
         self.file.text()
     }
 
-    /// The places where records may have the key, from the first to the last: those that are told of it,
-    /// and all where no key is asked for or nothing is told.
-    pub(crate) fn reached(&self, alloc: Global, key: Option<u64>) -> Result<Vec<usize>, AllocError>
+    // The places where records may have the key, from the first to the last: those that are told of it, and
+    // all where nothing is told.
+    fn reached(&self, alloc: Global, key: u64) -> Result<Vec<usize>, AllocError>
         ensures { IfOk result (λ places.
-            Reaches R.format (has_asked R.keys key) self.now places.items) }
+            Reaches R.format (λ r. has_key key (R.keys r)) self.now places.items) }
     {
-        if let Some(asked) = key {
-            if let Some(places) = self.keys.places(alloc, asked)? {
-                return Ok(places);
-            }
+        match self.keys.places(alloc, key)? {
+            Some(places) => Ok(places),
+            None => self.all(alloc),
         }
+    }
+
+    // All places, from the first to the last.
+    fn all(&self, alloc: Global) -> Result<Vec<usize>, AllocError>
+        ensures { IfOk result (λ places.
+            (test : R → Bool) → Reaches R.format test self.now places.items) }
+    {
         all_places(alloc, &self.file)
     }
 
-    /// The places where records of the name may stand, from the first to the last.
+    // The places of lines with one of the marks, from the first to the last, and all where texts were put.
+    fn marked(&self, alloc: Global, marks: Marks<'_>) -> Result<Vec<usize>, AllocError>
+        ensures { IfOk result (λ places.
+            AreMarked (marks_in marks.entry) self.now places.items) }
+    {
+        match self.file.marked(alloc, marks)? {
+            Some(places) => Ok(places),
+            None => all_places(alloc, &self.file),
+        }
+    }
+
+    /// The places where records of the name may stand, from the first to the last: those that are told of its
+    /// own key, and where nothing is told those of lines with the name.
     pub(crate) fn places_of(&self, alloc: Global, name: &[u8]) -> Result<Vec<usize>, AllocError>
         ensures { IfOk result (λ places.
             Reaches R.format (is_named R.format name.now) self.now places.items) }
     {
-        self.reached(alloc, Some(own_key(name)))
+        match self.keys.places(alloc, own_key(name))? {
+            Some(places) => Ok(places),
+            None => self.marked(alloc, Marks::one(name)),
+        }
     }
 
-    /// The places where records may stand that the change touches, from the first to the last: those of a
-    /// key that it needs, or of the names that it tells, and else all.
+    /// The places where records may stand that the change touches, from the first to the last: those that are
+    /// told of its key or names, and where nothing is told those of lines with a mark of it.
     pub(crate) fn touched(
         &self,
         alloc: Global,
@@ -125,10 +167,38 @@ impl<R: KeyedRecord + Drop> KeyedCells<R> {
         ensures { IfOk result (λ places.
             TouchesAt R.format (R.becomes change.now) self.now places.items) }
     {
-        let key = R::needed(change);
+        match self.told_of(alloc, change)? {
+            Some(places) => Ok(places),
+            None => self.marked_of(alloc, change),
+        }
+    }
+
+    // Those that are told of a key that the change needs, or of the names that it tells; none where nothing is
+    // told.
+    fn told_of(&self, alloc: Global, change: &R::Change) -> Result<Option<Vec<usize>>, AllocError>
+        ensures { IfOk result (λ places. IfSome places (λ places.
+            TouchesAt R.format (R.becomes change.now) self.now places.items)) }
+    {
+        if let Some(key) = R::needed(change) {
+            return self.keys.places(alloc, key);
+        }
         match R::touched_names(change) {
-            Some(ChangedNames::Each(names)) if key.is_none() => self.places_of_each(alloc, names),
-            _ => self.reached(alloc, key),
+            Some(ChangedNames::Each(names)) if self.is_indexed => {
+                Ok(Some(self.places_of_each(alloc, names)?))
+            }
+            _ => Ok(None),
+        }
+    }
+
+    // Those of lines with a mark of the change, and all where it has none or texts were put.
+    fn marked_of(&self, alloc: Global, change: &R::Change) -> Result<Vec<usize>, AllocError>
+        ensures { IfOk result (λ places.
+            TouchesAt R.format (R.becomes change.now) self.now places.items) }
+    {
+        let _ = &self.file;
+        match R::marks(change) {
+            Some(marks) => self.marked(alloc, marks),
+            None => self.all(alloc),
         }
     }
 
@@ -226,7 +296,7 @@ impl<R: KeyedRecord + Drop> KeyedCells<R> {
             let text = self.text()?;
             return first_passing(alloc, &Some(text), test);
         };
-        let places = self.reached(alloc, Some(key))?;
+        let places = self.reached(alloc, key)?;
         first_accepted(alloc, TextsThere::of(&self.file, places.as_slice()), test)
     }
 }

@@ -7,13 +7,13 @@ ghost use Rattle.table.specs.Standing.{IsOfFile, file_in, file_seen};
 ghost use Rattle.table.specs.TableEdits.{AreWritten, multiple_by, table_by};
 
 use crate::edited::edited;
-use crate::file_records::{edited_file, named_in};
+use crate::file_records::{edited_file, multiple_in, named_in};
 use crate::files::SeenFile;
 use crate::keyed_cells::KeyedCells;
 use crate::search::{RecordTest, first_passing, text_of};
 use acct_tables::{MANY, find_record, has_record, has_several_records};
 use acct_text::Bytes;
-use line_edits::{Edit, first_multiple};
+use line_edits::Edit;
 use record_keys::KeyedRecord;
 use std::alloc::{AllocError, Global};
 use std::marker::Model;
@@ -194,7 +194,8 @@ impl<R: KeyedRecord + Drop> Table<R> {
             multiple_by R.format R.becomes edits.now (table_records R.format self.now)) }
     {
         match &self.standing {
-            Standing::File(file) => first_multiple(alloc, text_of(file), edits),
+            Standing::File(Some(text)) => multiple_in(alloc, text, edits),
+            Standing::File(None) => Ok(None),
             Standing::Indexed(cells) => cells.first_multiple(alloc, edits),
         }
     }

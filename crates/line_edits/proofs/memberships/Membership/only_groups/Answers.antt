@@ -31,4 +31,4 @@ returns-in-Also c =
     ∙ same-texts c.as_slice.result.now c.as_slice-2.result.now c.ne.result c.ne.ensures
     c.if-ne.false
     ∙ c.as_slice-2.ensures)
-    c.in-Also.is c.each.ensures.listed c.each.ensures.apart
+    c.in-Also.is c.each.ensures

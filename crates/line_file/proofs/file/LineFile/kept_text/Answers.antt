@@ -3,10 +3,10 @@ use Rattle.std.specs.Map.{lookup}
 use Rattle.std.specs.Prelude.{None, nat_eq}
 use Rattle.std.specs.Vec.{vec_items}
 use Rattle.std.proofs.lemmas.Bool.{eqb-true}
-use Rattle.acct_text.specs.Lines.{file_bytes}
-use Rattle.line_file.specs.Cells.{lines_now}
+use Rattle.acct_text.specs.Lines.{file_bytes, lines_of}
+use Rattle.line_file.specs.Cells.{cells_from, lines_now}
 use Rattle.line_file.specs.Kept.{cells_kept, patches_of}
-use Rattle.line_file.proofs.KeptCells.{kept-bytes}
+use Rattle.line_file.proofs.KeptCells.{kept-bytes, kept-first}
 use Rattle.line_file.proofs.file.LineFile.kept_text.Goals as goal
 
 -- a list without elements
@@ -26,9 +26,13 @@ returns c =
     ap (map vec_items) (empty-list file.added.items
     (sym file.added.ok.0 ∙ eqb-true _ 0 (sym c.if-not-is_empty-2.ensures))) in
     let unended : file.are_ended ≡ false = c.if-self.false in
-    c.as_slice.ensures
-    ∙ sym (kept-bytes text patches none)
-    ∙ ap (λ ended. file_bytes (lines_now (cells_kept text ended patches []))) (sym unended)
-    ∙ ap (λ added. file_bytes (lines_now (cells_kept text file.are_ended patches added)))
-    (sym unadded)
-    ∙ ap (λ cells. file_bytes (lines_now cells)) c.self.view_is
+    let same : cells_kept text false patches [] ≡ c.args.self.now =
+    ap (λ ended. cells_kept text ended patches []) (sym unended)
+    ∙ ap (cells_kept text file.are_ended patches) (sym unadded)
+    ∙ c.self.view_is in
+    record {
+      bytes = c.as_slice.ensures ∙ sym (kept-bytes text patches none)
+          ∙ ap (λ cells. file_bytes (lines_now cells)) same;
+      cells = sym same ∙ kept-first text patches none
+          ∙ ap (λ text. cells_from 0 (lines_of text)) (sym c.as_slice.ensures);
+    }

@@ -2,6 +2,7 @@ use Rattle.std.proofs.Common.{◌≡◌, ◌∙◌, ◌+◌, ◌∷◌, drop, ge
 use Rattle.std.specs.Prelude.{find, option_map}
 use Rattle.std.proofs.Math.ListN.{drop_of_length-le}
 use Rattle.std.proofs.lemmas.List.{drop_more}
+use Rattle.account_model.specs.Format.{is_named}
 use Rattle.line_file.specs.Cells.{cell_at}
 use Rattle.line_file.specs.declared.cell.Cell.{Cell}
 use Rattle.table.specs.TableCells.{cells_there, has_named_in}
@@ -22,7 +23,7 @@ returns-then-has_named_at g c =
     sym (sym (ap (option_map (λ (cell : Cell). cell.place)) c.places.invariant)
     ∙ ap (λ left. option_map (λ (cell : Cell). cell.place)
     (find (has_named_in format name) (cells_there cells left))) left
-    ∙ met-first format name place cells (cells_there cells later) (cell_at place cells) refl
+    ∙ met-first format (is_named format name) place cells (cells_there cells later) (cell_at place cells) refl
     (sym c.has_named_at.ensures ∙ c.if-has_named_at.true))
 
 -- it isn't
@@ -34,7 +35,7 @@ places-preserved g c =
     let places = c.args.places.now in
     let place = get_or places c.places.place-index 0 in
     let later = drop (c.places.place-index + 1) places in
-    sym (passed-first format name (cells_there cells later) (cell_at place cells)
+    sym (passed-first format (is_named format name) (cells_there cells later) (cell_at place cells)
     (sym c.has_named_at.ensures ∙ c.if-has_named_at.false))
     ∙ sym (ap (λ left. find (has_named_in format name) (cells_there cells left))
     (drop_more places c.places.place-index 0 (omega arith)))

@@ -1,7 +1,6 @@
 use Rattle.std.proofs.Common.{◌∙◌}
-use Rattle.std.specs.Prelude.{Some}
 use Rattle.std.proofs.lemmas.Result.{IfOk-weaker}
-use Rattle.table.specs.TableCells.{has_asked}
+use Rattle.record_keys.specs.KeyPlaces.{has_key}
 use Rattle.table.proofs.ReachLemmas.{reaches-weaker}
 use Rattle.table.proofs.ReachedRecords.{found-there}
 use Rattle.table.proofs.keyed_cells.KeyedCells.first_passing.Goals as goal
@@ -14,7 +13,7 @@ returns g c =
     let found = found-there format test
     c.self.inside.file c.args.self.now c.self.view_is c.self.invariant.placed
     c.in_ok-places.places.items
-    (reaches-weaker format test (has_asked g.R.KeyedRecord.keys (Some c.in-Some.key))
+    (reaches-weaker format test (λ r. has_key c.in-Some.key (g.R.KeyedRecord.keys r))
     c.args.self.now c.in_ok-places.places.items c.in-Some.ensures c.in_ok-places.ensures)
     c.as_slice.result.now c.as_slice.ensures.value c.of.result c.of.ensures in
     IfOk-weaker c.first_accepted.result _ _ (λ item is. is ∙ found) c.first_accepted.ensures

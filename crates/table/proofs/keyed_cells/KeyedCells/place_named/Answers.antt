@@ -1,5 +1,6 @@
 use Rattle.std.proofs.Common.{◌∙◌, ap}
 use Rattle.std.specs.Prelude.{find, option_map}
+use Rattle.account_model.specs.Format.{is_named}
 use Rattle.table.specs.TableCells.{cells_there, has_named_in}
 use Rattle.table.proofs.PutRecords.{first-reached}
 use Rattle.table.proofs.keyed_cells.KeyedCells.place_named.Goals as goal
@@ -11,5 +12,6 @@ returns g c =
     ∙ ap (option_map (λ cell. cell.place))
     (ap (λ places. find (has_named_in g.R.TableRecord.format c.args.name.now)
     (cells_there c.args.self.now places)) c.as_slice.ensures.value
-    ∙ first-reached g.R.TableRecord.format c.args.name.now c.args.self.now
+    ∙ first-reached g.R.TableRecord.format (is_named g.R.TableRecord.format c.args.name.now)
+    c.args.self.now
     c.in_ok-places.places.items c.in_ok-places.ensures)

@@ -1,19 +1,10 @@
-use Rattle.std.proofs.Common.{◌∙◌, sym, ap, subst}
 use Rattle.std.proofs.lemmas.Result.{IfOk-weaker}
-use Rattle.std.specs.List.{AllByRecursion}
-use Rattle.line_file.specs.Cells.{ArePlaced}
-use Rattle.table.specs.TableCells.{IsSound, Reaches, has_asked}
-use Rattle.table.proofs.ReachLemmas.{all-reaches, places_in}
+use Rattle.record_keys.specs.KeyPlaces.{has_key}
 use Rattle.table.proofs.keyed_cells.KeyedCells.reached.Goals as goal
 
 -- all places reach all records
-pub returns : goal.returns
-returns g c =
-    let format = g.R.TableRecord.format in
-    let test = has_asked g.R.KeyedRecord.keys c.args.key in
-    IfOk-weaker c.all_places.result _ _ (λ places is.
-    subst (Reaches format test c.args.self.now) (sym (is ∙ ap places_in c.self.view_is))
-    (all-reaches format test c.args.self.now
-    (subst (AllByRecursion IsSound) c.self.view_is c.self.invariant.sound)
-    (subst ArePlaced c.self.view_is c.self.invariant.placed)))
-    c.all_places.ensures
+pub returns-in-None : goal.returns-in-None
+returns-in-None g c =
+    IfOk-weaker c.all.result _ _ (λ places reached.
+    reached (λ r. has_key c.args.key (g.R.KeyedRecord.keys r)))
+    c.all.ensures

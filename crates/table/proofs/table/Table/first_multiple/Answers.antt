@@ -9,9 +9,9 @@ use Rattle.table.proofs.table.Table.first_multiple.Goals as goal
 pub returns-in-Indexed : goal.returns-in-Indexed
 returns-in-Indexed g c =
     let format = g.R.TableRecord.format in
-    IfOk-weaker c.first_multiple-in-Indexed.result _ _ (λ found is.
+    IfOk-weaker c.first_multiple.result _ _ (λ found is.
     is
     ∙ ap (first_multiple format (seen_edits g.R.EditedRecord.becomes c.args.edits.now))
     (kept-records c.self.inside.standing c.in-Indexed.cells c.in-Indexed.is c.self.invariant format
     c.args.self.now c.self.view_is))
-    c.first_multiple-in-Indexed.ensures
+    c.first_multiple.ensures

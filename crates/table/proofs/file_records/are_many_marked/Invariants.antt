@@ -1,0 +1,9 @@
+use Rattle.std.proofs.Common.{◌<◌, length}
+use Rattle.table.proofs.file_records.are_many_marked.Given as goal
+
+-- few lines so far
+abbrev pub invariant-lines : goal.invariant-lines
+invariant-lines l = l.count < 8
+
+abbrev pub decreases-lines : goal.decreases-lines
+decreases-lines l = length l.left

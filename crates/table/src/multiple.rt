@@ -1,0 +1,246 @@
+// The first record that edits of a table touch and whose name has several (passwd(5), shadow(5),
+// group(5), gshadow(5), subuid(5), subgid(5)). An edit is asked about in the places that it is carried
+// out in, one after another, and none about the places of others.
+ghost use Rattle.std.specs.Prelude.{◌≡◌, ◌∷◌, [], Some, find, option_map, IfOk};
+ghost use Rattle.std.specs.List.{AllByRecursion, cons_option, list_any};
+ghost use Rattle.acct_text.specs.Bytes.{newline};
+ghost use Rattle.acct_text.specs.Pieces.{Lacks};
+ghost use Rattle.account_model.specs.Format.{records_of};
+ghost use Rattle.account_model.specs.RecordEdits.{IsWrittenEdit};
+ghost use Rattle.line_edits.specs.SeenEdits.{seen_edit, seen_edits};
+ghost use Rattle.line_edits.specs.Touching.{is_met};
+ghost use Rattle.line_file.specs.Cells.{cell_at, lines_now};
+ghost use Rattle.table.specs.Met.{MeetsAt, earlier, first_in, has_met, meets};
+ghost use Rattle.table.specs.TableCells.{cells_there, records_read};
+ghost use Rattle.table.specs.TableEdits.{AreWritten, multiple_by};
+
+use crate::keyed_cells::KeyedCells;
+use acct_tables::name_of;
+use acct_text::Bytes;
+use line_edits::{Edit, leaves, touches};
+use line_file::Texts;
+use record_keys::KeyedRecord;
+use std::alloc::{AllocError, Global};
+
+impl<R: KeyedRecord + Drop> KeyedCells<R> {
+    /// The name of the first record that the edits touch and whose name has several records.
+    pub(crate) fn first_multiple(
+        &self,
+        alloc: Global,
+        edits: &[Edit<R, R::Change>],
+    ) -> Result<Option<Bytes>, AllocError>
+        requires { AreWritten R.format R.becomes edits.now }
+        ensures { IfOk result (λ name. name ≡ multiple_by R.format R.becomes edits.now
+            (records_of R.format (lines_now self.now))) }
+    {
+        match self.first_met(alloc, edits)? {
+            Some(place) => self.name_met(alloc, edits, place),
+            None => Ok(None),
+        }
+    }
+
+    // The first place with such a record.
+    fn first_met(
+        &self,
+        alloc: Global,
+        edits: &[Edit<R, R::Change>],
+    ) -> Result<Option<usize>, AllocError>
+        requires { AreWritten R.format R.becomes edits.now }
+        ensures { IfOk result (λ place. place
+            ≡ first_in (has_met R.format (seen_edits R.becomes edits.now) self.now) self.now) }
+    {
+        let _ = &self.file;
+        let mut first = None;
+        'edits: for edit in edits {
+            first = earlier(first, self.met_by(alloc, edit)?);
+        }
+        Ok(first)
+    }
+
+    // The first place with one that this edit touches.
+    fn met_by(&self, alloc: Global, edit: &Edit<R, R::Change>) -> Result<Option<usize>, AllocError>
+        requires { IsWrittenEdit R.format (seen_edit R.becomes edit.now) }
+        ensures { IfOk result (λ place. place ≡
+            first_in (has_met R.format (seen_edit R.becomes edit.now ∷ []) self.now) self.now) }
+    {
+        let places = self.met_places(alloc, edit)?;
+        self.met_of(alloc, edit, places.as_slice())
+    }
+
+    // The places where such records may stand, from the first to the last.
+    fn met_places(&self, alloc: Global, edit: &Edit<R, R::Change>) -> Result<Vec<usize>, AllocError>
+        ensures { IfOk result (λ places.
+            MeetsAt R.format (seen_edit R.becomes edit.now) self.now places.items) }
+    {
+        let _ = &self.file;
+        match edit {
+            Edit::Become(change) => self.touched(alloc, change),
+            Edit::Put(item) => self.places_of(alloc, item.name()),
+            Edit::Add(_) => Ok(Vec::new(alloc)),
+            Edit::AddMissing(_) => Ok(Vec::new(alloc)),
+        }
+    }
+
+    // The first of the places with one that this edit touches.
+    fn met_of(
+        &self,
+        alloc: Global,
+        edit: &Edit<R, R::Change>,
+        places: &[usize],
+    ) -> Result<Option<usize>, AllocError>
+        requires { IsWrittenEdit R.format (seen_edit R.becomes edit.now) }
+        ensures { IfOk result (λ place. place ≡
+            first_in (has_met R.format (seen_edit R.becomes edit.now ∷ []) self.now)
+            (cells_there self.now places.now)) }
+    {
+        'places: for place in places {
+            if self.meets_at(alloc, edit, *place)? {
+                return Ok(Some(*place));
+            }
+        }
+        Ok(None)
+    }
+
+    // Whether one that this edit touches stands in a place.
+    fn meets_at(
+        &self,
+        alloc: Global,
+        edit: &Edit<R, R::Change>,
+        place: usize,
+    ) -> Result<bool, AllocError>
+        requires { IsWrittenEdit R.format (seen_edit R.becomes edit.now) }
+        ensures { IfOk result (λ found. found ≡
+            list_any (has_met R.format (seen_edit R.becomes edit.now ∷ []) self.now)
+            (cons_option (cell_at place self.now) [])) }
+    {
+        match self.file.cell(place) {
+            Some(cell) => self.meets_one(alloc, edit, cell.texts),
+            None => Ok(false),
+        }
+    }
+
+    // Whether one of the texts is such a record.
+    fn meets_one(
+        &self,
+        alloc: Global,
+        edit: &Edit<R, R::Change>,
+        mut left: Texts<'_>,
+    ) -> Result<bool, AllocError>
+        requires written { IsWrittenEdit R.format (seen_edit R.becomes edit.now) }
+        requires one_line { AllByRecursion (Lacks newline) left }
+        ensures { IfOk result (λ found. found ≡ list_any
+            (meets R.format (seen_edit R.becomes edit.now ∷ []) self.now) left.entry) }
+    {
+        'texts: while let Some(text) = left.take() {
+            if self.meets(alloc, edit, text)? {
+                return Ok(true);
+            }
+        }
+        Ok(false)
+    }
+
+    // Whether the text is such a record. A name is looked up before its record is read.
+    fn meets(
+        &self,
+        alloc: Global,
+        edit: &Edit<R, R::Change>,
+        text: &[u8],
+    ) -> Result<bool, AllocError>
+        requires written { IsWrittenEdit R.format (seen_edit R.becomes edit.now) }
+        requires one_line { Lacks newline text.now }
+        ensures { IfOk result (λ found. found
+            ≡ meets R.format (seen_edit R.becomes edit.now ∷ []) self.now text.now) }
+    {
+        if leaves(edit, text) {
+            return Ok(false);
+        }
+        let Some(name) = name_of::<R>(text) else {
+            return Ok(false);
+        };
+        if !self.has_several(alloc, name)? {
+            return Ok(false);
+        }
+        touches(alloc, edit, text)
+    }
+
+    // The name of the first such record, which stands in this place.
+    fn name_met(
+        &self,
+        alloc: Global,
+        edits: &[Edit<R, R::Change>],
+        place: usize,
+    ) -> Result<Option<Bytes>, AllocError>
+        requires written { AreWritten R.format R.becomes edits.now }
+        requires first { first_in (has_met R.format (seen_edits R.becomes edits.now) self.now)
+            self.now ≡ Some place }
+        ensures { IfOk result (λ name. name ≡ multiple_by R.format R.becomes edits.now
+            (records_of R.format (lines_now self.now))) }
+    {
+        match self.file.cell(place) {
+            Some(cell) => self.name_among(alloc, edits, cell.texts),
+            None => Ok(None),
+        }
+    }
+
+    // The name of the first such record among texts.
+    fn name_among(
+        &self,
+        alloc: Global,
+        edits: &[Edit<R, R::Change>],
+        mut left: Texts<'_>,
+    ) -> Result<Option<Bytes>, AllocError>
+        requires written { AreWritten R.format R.becomes edits.now }
+        requires one_line { AllByRecursion (Lacks newline) left }
+        ensures { IfOk result (λ name. name ≡ option_map R.format.name
+            (find (is_met R.format (seen_edits R.becomes edits.now)
+            (records_of R.format (lines_now self.now))) (records_read R.format left.entry))) }
+    {
+        'texts: while let Some(text) = left.take() {
+            if self.is_met(alloc, edits, text)? {
+                return name_in::<R>(alloc, text);
+            }
+        }
+        Ok(None)
+    }
+
+    // Whether the text is such a record.
+    fn is_met(
+        &self,
+        alloc: Global,
+        edits: &[Edit<R, R::Change>],
+        text: &[u8],
+    ) -> Result<bool, AllocError>
+        requires written { AreWritten R.format R.becomes edits.now }
+        requires one_line { Lacks newline text.now }
+        ensures { IfOk result (λ found. found
+            ≡ meets R.format (seen_edits R.becomes edits.now) self.now text.now) }
+    {
+        'edits: for edit in edits {
+            if self.meets(alloc, edit, text)? {
+                return Ok(true);
+            }
+        }
+        Ok(false)
+    }
+}
+
+// The lower one of two places, or the only one.
+fn earlier(one: Option<usize>, other: Option<usize>) -> Option<usize>
+    ensures { result ≡ earlier one other }
+{
+    match (one, other) {
+        (Some(place), Some(found)) => Some(place.min(found)),
+        (Some(place), None) => Some(place),
+        (None, found) => found,
+    }
+}
+
+// The name of the record that the text is; none of other text.
+fn name_in<R: KeyedRecord>(alloc: Global, text: &[u8]) -> Result<Option<Bytes>, AllocError>
+    ensures { IfOk result (λ name. name ≡ option_map R.format.name (R.format.read text.now)) }
+{
+    match name_of::<R>(text) {
+        Some(name) => Ok(Some(Bytes::of(alloc, name)?)),
+        None => Ok(None),
+    }
+}
