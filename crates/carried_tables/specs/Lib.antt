@@ -1,4 +1,3 @@
-pub mod Sources
 pub mod RangeNumbers
 pub mod InUse
 pub mod KeptIds

@@ -89,8 +89,9 @@ impl CarriedTables {
         Ok(())
     }
 
-    /// Makes an index of each table, and gathers the IDs of users and groups. It serves commands that
-    /// follow one another. At `AllocError` some of the tables may be gone.
+    /// Makes an index of each table, that of subuid(5) and of subgid(5) at its first edit, and gathers the
+    /// IDs of users and groups. It serves commands that follow one another. At `AllocError` some of the
+    /// tables may be gone.
     pub fn index(&mut self, alloc: Global) -> Result<(), AllocError>
         ensures { OnOk result (self.new ≡ self.old) }
     {

@@ -6,15 +6,14 @@
 //! `table`, those of users and of groups with the IDs that are used (`id_table`, `kept_ids`), and those
 //! of subordinate IDs with the numbers that their ranges take (`range_table`).
 //!
-//! `ids` gathers the IDs that are used in a file; `in_use` is how they are answered. Commands ask a
-//! `RangeTable` as a `RangeFile`, which is a file by itself as well. It decides how edits of ranges are
-//! made. `left_ranges` passes by those that leave the whole file. Without an index `range_edits` makes
-//! them in the text: removals of IDs from one owner that follow one another in one pass over the lines,
-//! of which `cut_ranges` has what is left of one range; and the removal of all ranges of an owner
-//! (`removed_owner`). By an index `edits_in_place` makes them: a range that comes, an owner that gets
-//! another name, one whose ranges go, and one whose only range loses an end take no pass over the lines.
-//! How the numbers follow an edit is in `range_numbers`, and which edits take from the ranges of one
-//! owner in `owner_edits`.
+//! `ids` gathers the IDs that are used in a file; `in_use` is how they are answered. A `RangeTable` decides
+//! how edits of ranges are made. `left_ranges` passes by those that leave the whole file. Without an index
+//! `range_edits` makes them in the text: removals of IDs from one owner that follow one another in one
+//! pass over the lines, of which `cut_ranges` has what is left of one range; and the removal of all ranges
+//! of an owner (`removed_owner`). By an index `edits_in_place` makes them: a range that comes, an owner
+//! that gets another name, one whose ranges go, and one whose only range loses an end take no pass over
+//! the lines. How the numbers follow an edit is in `range_numbers`, and which edits take from the ranges
+//! of one owner in `owner_edits`.
 #![tactic(auto)]
 
 mod carried_tables;
@@ -27,7 +26,6 @@ mod kept_ids;
 mod left_ranges;
 mod owner_edits;
 mod range_edits;
-mod range_file;
 mod range_numbers;
 mod range_table;
 mod removed_owner;
@@ -37,5 +35,4 @@ pub use id_table::IdTable;
 pub use ids::{IdRecord, Renumbering, used_ids};
 pub use in_use::IdsInUse;
 pub use range_edits::edited_ranges;
-pub use range_file::RangeFile;
 pub use range_table::RangeTable;

@@ -11,15 +11,14 @@ ghost use Rattle.line_edits.specs.SubidChanges.{subid_becomes};
 
 use crate::left_ranges::open_edits;
 use crate::range_edits::edited_ranges;
-use crate::range_file::{RangeFile, gap_in};
 use acct_lines::SubidRecord;
 use acct_text::Bytes;
 use itoa::Buffer;
 use line_edits::{Edit, SubidChange};
 use std::alloc::{AllocError, Global};
 use std::marker::Model;
-use subid_ranges::RangeNumbers;
-use table::Table;
+use subid_ranges::{RangeNumbers, free_gap_in};
+use table::{Table, text_of};
 
 // From so many edits on, of which one takes IDs out of ranges, these are made in one pass, as an owner
 // may have many ranges.
@@ -85,13 +84,6 @@ impl RangeTable {
         self.table.take_file()
     }
 
-    /// The file as it is asked.
-    pub fn ranges(&self) -> RangeFile<'_>
-        ensures { result ≡ self.now }
-    {
-        RangeFile::carried(self)
-    }
-
     /// Whether there is a file.
     pub fn is_there(&self) -> bool
         ensures { result ≡ is_some self.now }
@@ -100,7 +92,7 @@ impl RangeTable {
     }
 
     /// A copy of the bytes; none where there is no file.
-    pub fn file(&self) -> Result<Option<Bytes>, AllocError>
+    pub fn copy(&self) -> Result<Option<Bytes>, AllocError>
         ensures { IfOk result (λ file. file ≡ self.now) }
     {
         self.table.file()
@@ -189,6 +181,21 @@ fn is_cut(edit: &Edit<SubidRecord, SubidChange>) -> bool {
         Edit::Become(change) => matches!(change, SubidChange::Cut(_)),
         Edit::Add(_) | Edit::AddMissing(_) | Edit::Put(_) => false,
     }
+}
+
+// The least start among the ranges of the file, as `free_gap` has it.
+fn gap_in(
+    alloc: Global,
+    file: &Option<Bytes>,
+    min: u32,
+    max: u32,
+    count: u32,
+) -> Result<Option<u32>, AllocError>
+    requires { 0 < count }
+    ensures { IfOk result (λ start.
+        start ≡ free_range min max count (table_records subid_format file.now)) }
+{
+    free_gap_in(alloc, text_of(file), min, max, count)
 }
 
 // The bytes of the file after the edits, where they are others.

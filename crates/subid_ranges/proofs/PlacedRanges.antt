@@ -1,12 +1,10 @@
 -- Claim: what a search finds in the lines left is by the range of the next, and by what is left
 -- behind it (`meeting-here`, `meeting-behind`, `owned-here`, `owned-behind`, `held-left`); a line of another
--- owner has none of the owner's (`other-owned`); and an owner has a range where a first one is found
--- (`has-first`).
-use Rattle.std.proofs.Common.{◌≡◌, ◌≤◌, ℕ, ◌+◌, Bool, true, false, List, [], ◌∷◌, refl, sym, ◌∙◌, ap, inl, inr, arith}
-use Rattle.std.specs.Prelude.{Option, Some, None, ◌||◌, ◌&&◌, nat_le, not, is_none, is_some, map, filter, if◌then◌else◌}
+-- owner has none of the owner's (`other-owned`).
+use Rattle.std.proofs.Common.{◌≡◌, ◌≤◌, ℕ, ◌+◌, Bool, true, false, List, [], ◌∷◌, refl, sym, ◌∙◌, ap, arith}
+use Rattle.std.specs.Prelude.{Option, Some, None, ◌||◌, ◌&&◌, nat_le, not, is_none, map, filter, if◌then◌else◌}
 use Rattle.std.specs.List.{AllByRecursion, cons_option, list_any, position_from}
-use Rattle.std.specs.Option.{MatchOption}
-use Rattle.std.proofs.lemmas.Bool.{and_parts, cases_Bool, le-leb, leb-true, true≢false}
+use Rattle.std.proofs.lemmas.Bool.{and_parts, le-leb, leb-true, true≢false}
 use Rattle.acct_text.specs.Lines.{Line}
 use Rattle.account_model.specs.declared.records.SubidRecord.{SubidRecord}
 use Rattle.account_model.specs.FreeRange.{Meeting, meets}
@@ -259,34 +257,3 @@ meeting-none first last lines none =
     apart-all first last (ranges_of lines)
     (not-true (list_any (meets first last) (ranges_of lines))
     (sym (ap is_none none) ∙ meeting-any first last lines 1))
-
--- ---- Whether there is one
-
-module _ {R X : Type 0} (f : R → X) (test : R → Bool) where
-  -- where none is found, none passes
-  none-passes : (rs : List R) → map f (filter test rs) ≡ [] → list_any test rs ≡ false
-  none-passes [] none = refl
-  none-passes (r ∷ rs) none = elim (cases_Bool (test r)) [
-    | inl passes ↦ absurd (cc (rw passes at none))
-    | inr fails ↦ rw fails (none-passes rs (rw fails at none))
-  ]
-
-  -- where one is found, one passes
-  one-passes :
-      (rs : List R) (x : X) (rest : List X)
-      → map f (filter test rs) ≡ x ∷ rest
-      → list_any test rs ≡ true
-  one-passes [] x rest found = absurd cc
-  one-passes (r ∷ rs) x rest found = elim (cases_Bool (test r)) [
-    | inl passes ↦ rw passes refl
-    | inr fails ↦ rw fails (one-passes rs x rest (rw fails at found))
-  ]
-
-  -- the first of those that pass tells whether one does
-  pub has-first :
-      (rs : List R) (found : Option X) (rest : List X)
-      → MatchOption found ((map f (filter test rs) ≡ []) × (rest ≡ []))
-      (λ x. map f (filter test rs) ≡ x ∷ rest)
-      → is_some found ≡ list_any test rs
-  has-first rs None rest is = sym (none-passes rs is.0)
-  has-first rs (Some x) rest is = sym (one-passes rs x rest is)

@@ -19,7 +19,7 @@ mod ranges;
 mod taken;
 
 pub use fault::RangeFault;
-pub use owned::{OwnedRanges, has_owner_in};
+pub use owned::OwnedRanges;
 pub use range_numbers::RangeNumbers;
 pub use ranges::Ranges;
 pub use taken::free_gap_in;

@@ -1,11 +1,8 @@
 // The ranges of one owner (getsubids(1), usermod(8)).
 ghost use Rattle.std.specs.Prelude.{◌≡◌};
 ghost use Rattle.acct_text.specs.Lines.{lines_of};
-ghost use Rattle.std.specs.List.{list_any};
 ghost use Rattle.account_model.specs.Records.{subid_format};
-ghost use Rattle.account_model.specs.SubidOwner.{is_owned};
 ghost use Rattle.subid_ranges.specs.Owned.{owned_one, owned_ranges};
-ghost use Rattle.subid_ranges.specs.RangeLines.{ranges_of};
 
 use crate::range_line::range_in;
 use acct_lines::first_field;
@@ -59,13 +56,6 @@ impl<'a> Iterator for OwnedRanges<'a> {
         }
         None
     }
-}
-
-/// Whether a range in a file with these bytes is the owner's. It takes no memory.
-pub fn has_owner_in(text: &[u8], owner: &[u8], uid: Option<u32>) -> bool
-    ensures { result ≡ list_any (is_owned owner.now uid) (ranges_of (lines_of text.now)) }
-{
-    OwnedRanges::new(text, owner, uid).next().is_some()
 }
 
 // The range that a line is, where it is the owner's. A line of another owner isn't read further.

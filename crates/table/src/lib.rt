@@ -26,5 +26,5 @@ mod table;
 mod texts_there;
 
 pub use files::{SeenFile, copy_of};
-pub use search::{OfGid, OfUid, RecordTest, first_passing, text_of};
+pub use search::{OfGid, RecordTest, text_of};
 pub use table::Table;

@@ -30,33 +30,6 @@ pub trait RecordTest<R: KeyedRecord> {
         ensures { result ≡ is_accepted (accepts self.now) (R.format.read line.now) };
 }
 
-/// That a user has the UID.
-#[derive(Clone, Copy)]
-pub struct OfUid {
-    pub uid: u32,
-}
-
-impl RecordTest<PasswdRecord> for OfUid {
-    ghost use Rattle.std.specs.Prelude.{◌==◌};
-
-    ghost accepts = { λ test user. user.uid == test.uid };
-
-    fn number(&self) -> u32 {
-        self.uid
-    }
-
-    fn key(&self) -> Option<u64> {
-        None
-    }
-
-    fn passes(&self, line: &[u8]) -> bool {
-        match PasswdLine::read(line) {
-            Ok(user) => user.uid == self.uid,
-            Err(_) => false,
-        }
-    }
-}
-
 /// That a user or a group has the GID.
 #[derive(Clone, Copy)]
 pub struct OfGid {
@@ -116,7 +89,7 @@ pub fn text_of(file: &Option<Bytes>) -> &[u8]
 }
 
 /// The first record of the file that passes the test. Only lines with its number are read.
-pub fn first_passing<R: KeyedRecord + Drop, T: RecordTest<R>>(
+pub(crate) fn first_passing<R: KeyedRecord + Drop, T: RecordTest<R>>(
     alloc: Global,
     file: &Option<Bytes>,
     test: &T,

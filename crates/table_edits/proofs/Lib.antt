@@ -1,5 +1,3 @@
 pub mod ActingLemmas
-pub mod GroupNames
 pub mod IdleLemmas
 pub mod OtherUsers
-pub mod StoppingLemmas

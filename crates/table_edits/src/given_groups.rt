@@ -1,5 +1,6 @@
 // The groups that words name (useradd(8), usermod(8), `-g` and `-G`).
-ghost use Rattle.std.specs.Prelude.{◌≡◌, is_some, map, option_map, IfOk};
+ghost use Rattle.std.specs.Prelude.{◌≡◌, ◌++◌, [], is_some, map, option_map, IfOk, OnOk};
+ghost use Rattle.std.specs.List.{cons_option};
 ghost use Rattle.account_model.specs.GivenGroups.{find_group as named_by_word, given_group, given_groups, group_words as words_of_groups};
 ghost use Rattle.account_model.specs.Tables.{group_records};
 ghost use Rattle.account_model.specs.Users.{group_named as group_of_name};
@@ -98,9 +99,23 @@ pub fn group_names(alloc: Global, asked: &Asked, tables: &Tables) -> Result<Name
     let words = group_words(alloc, asked)?;
     let mut names = Names::new(alloc);
     for word in words.as_slice() {
-        if let Some(name) = group_name(alloc, tables, word.as_slice())? {
-            names.push(name.as_slice())?;
-        }
+        push_named(alloc, &mut names, tables, word.as_slice())?;
     }
     Ok(names)
+}
+
+// Adds the name of the first group that the word names, where it names one.
+fn push_named(
+    alloc: Global,
+    names: &mut Names,
+    tables: &Tables,
+    word: &[u8],
+) -> Result<(), AllocError>
+    ensures { OnOk result (names.new ≡ names.old ++ cons_option
+        (option_map (λ group. group.name) (named_by_word word.now (group_records tables.now))) []) }
+{
+    if let Some(name) = group_name(alloc, tables, word)? {
+        names.push(name.as_slice())?;
+    }
+    Ok(())
 }

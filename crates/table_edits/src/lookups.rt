@@ -84,6 +84,13 @@ impl Tables<'_> {
         if self.has_group(name) {
             return Ok(());
         }
-        Err(ToolFault::Refused(Refusal::NoGroup(Bytes::of(alloc, name)?)))
+        Err(no_group(alloc, name)?)
     }
+}
+
+/// The fault that tells that no group has the name or the GID.
+pub(crate) fn no_group(alloc: Global, name: &[u8]) -> Result<ToolFault, AllocError>
+    ensures { IfOk result (λ fault. fault ≡ ToolFault.Refused (Refusal.NoGroup name.now)) }
+{
+    Ok(ToolFault::Refused(Refusal::NoGroup(Bytes::of(alloc, name)?)))
 }

@@ -1,9 +1,7 @@
 // The six tables of a command.
-ghost use Rattle.std.specs.Prelude.{◌≡◌, is_some, IfOk};
+ghost use Rattle.std.specs.Prelude.{◌≡◌, is_some};
 
-use acct_text::Bytes;
-use carried_tables::{CarriedTables, RangeFile};
-use std::alloc::AllocError;
+use carried_tables::{CarriedTables, RangeTable};
 use std::marker::Model;
 
 /// The tables of a command, as the commands before it left them. Contracts see them as the files.
@@ -43,31 +41,17 @@ impl<'a> Tables<'a> {
         self.carried.gshadow().is_there()
     }
 
-    /// A copy of the bytes of subuid(5); none where there is no file.
-    pub fn subuid_file(&self) -> Result<Option<Bytes>, AllocError>
-        ensures { IfOk result (λ file. file ≡ self.now.subuid) }
+    /// The table subuid(5).
+    pub fn subuid_ranges(&self) -> &'a RangeTable
+        ensures { result.now ≡ self.now.subuid }
     {
-        self.subuid_ranges().copy()
+        self.carried.subuid()
     }
 
-    /// A copy of the bytes of subgid(5); none where there is no file.
-    pub fn subgid_file(&self) -> Result<Option<Bytes>, AllocError>
-        ensures { IfOk result (λ file. file ≡ self.now.subgid) }
+    /// The table subgid(5).
+    pub fn subgid_ranges(&self) -> &'a RangeTable
+        ensures { result.now ≡ self.now.subgid }
     {
-        self.subgid_ranges().copy()
-    }
-
-    /// The file of subuid(5) as it is asked for ranges.
-    pub fn subuid_ranges(&self) -> RangeFile<'a>
-        ensures { result ≡ self.now.subuid }
-    {
-        self.carried.subuid().ranges()
-    }
-
-    /// The file of subgid(5) as it is asked for ranges.
-    pub fn subgid_ranges(&self) -> RangeFile<'a>
-        ensures { result ≡ self.now.subgid }
-    {
-        self.carried.subgid().ranges()
+        self.carried.subgid()
     }
 }

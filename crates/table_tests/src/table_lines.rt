@@ -13,7 +13,7 @@ use acct_text::Bytes;
 use line_edits::{Edit, PasswdChange};
 use std::alloc::{AllocError, Global};
 use std::test::Fail;
-use table::{OfGid, OfUid, Table};
+use table::{OfGid, Table};
 
 const USERS: &[u8] =
     b"ann:x:1000:100::/:\n# two of one name\nbob:x:1001:100::/:\nann:x:1002:101::/:";
@@ -42,10 +42,6 @@ fn records_are_found_by_name_and_by_test(rt: HostRuntime) -> Result<(), Fail> {
     assert_eq!(rt;
         uid_of(table.first_passing(alloc, &OfGid { gid: 101 })?),
         Some(1002)
-    );
-    assert_eq!(rt;
-        uid_of(table.first_passing(alloc, &OfUid { uid: 1001 })?),
-        Some(1001)
     );
     Ok(())
 }

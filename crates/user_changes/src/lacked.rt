@@ -57,8 +57,8 @@ pub(crate) fn range_file(tables: &Tables, sort: IdSort) -> Result<Option<Bytes>,
     ensures { IfOk result (λ file. file ≡ table_of tables.now (range_table sort)) }
 {
     match sort {
-        IdSort::Uid => tables.subuid_file(),
-        IdSort::Gid => tables.subgid_file(),
+        IdSort::Uid => tables.subuid_ranges().copy(),
+        IdSort::Gid => tables.subgid_ranges().copy(),
     }
 }
 

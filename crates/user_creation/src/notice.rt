@@ -10,7 +10,7 @@ ghost use Rattle.user_creation.specs.Added.{added_uid};
 
 use crate::ranges::may_have_ranges;
 use acct_text::{Bytes, Names, Tab};
-use carried_tables::RangeFile;
+use carried_tables::RangeTable;
 use command_values::Asked;
 use line_edits::Edit;
 use std::alloc::{AllocError, Global};
@@ -61,7 +61,7 @@ fn useradd_notices(
         asked,
         uid,
         Tab::Subuid,
-        &tables.subuid_ranges(),
+        tables.subuid_ranges(),
     )?;
     tell_ranges(
         alloc,
@@ -69,7 +69,7 @@ fn useradd_notices(
         asked,
         uid,
         Tab::Subgid,
-        &tables.subgid_ranges(),
+        tables.subgid_ranges(),
     )?;
     Ok(notices)
 }
@@ -81,7 +81,7 @@ fn tell_ranges(
     asked: &Asked,
     uid: Option<u32>,
     tab: Tab,
-    file: &RangeFile<'_>,
+    file: &RangeTable,
 ) -> Result<(), AllocError>
     ensures { OnOk result (notices.new ≡ notices.old
         ++ range_notices asked.now uid tab (table_records subid_format file.now)) }

@@ -41,14 +41,14 @@ pub(crate) fn plan_of(
         subuid: allotment_of(
             alloc,
             asked,
-            &tables.subuid_ranges(),
+            tables.subuid_ranges(),
             uid,
             uid_bounds(settings),
         )?,
         subgid: allotment_of(
             alloc,
             asked,
-            &tables.subgid_ranges(),
+            tables.subgid_ranges(),
             uid,
             gid_bounds(settings),
         )?,

@@ -7,7 +7,7 @@ ghost use Rattle.login_defs.specs.Held.{Gives, IsHeld};
 ghost use Rattle.user_creation.specs.Allotments.{gid_bounds_under, is_open, subordinate_of, uid_bounds_under};
 
 use account_model::{Allotment, Key};
-use carried_tables::RangeFile;
+use carried_tables::RangeTable;
 use command_values::Asked;
 use login_defs::Defs;
 use std::alloc::{AllocError, Global};
@@ -24,7 +24,7 @@ pub(crate) struct Bounds {
 pub(crate) fn allotment_of(
     alloc: Global,
     asked: &Asked,
-    file: &RangeFile<'_>,
+    file: &RangeTable,
     uid: Option<u32>,
     bounds: Bounds,
 ) -> Result<Allotment, AllocError>
@@ -45,7 +45,7 @@ pub(crate) fn allotment_of(
 }
 
 // Whether there is a file in which the user may have ranges, and has none yet.
-fn is_open(asked: &Asked, file: &RangeFile<'_>, uid: Option<u32>) -> bool
+fn is_open(asked: &Asked, file: &RangeTable, uid: Option<u32>) -> bool
     ensures { result ≡ is_open asked.now uid file.now }
 {
     file.is_there() && may_have_ranges(asked) && !file.has_owner(asked.operand(), uid)

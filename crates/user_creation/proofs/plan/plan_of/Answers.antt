@@ -11,11 +11,11 @@ returns c = λ under has.
     let uid : c.in_ok-uid.uid ≡ new_uid asked tables under = c.in_ok-uid.ensures {u = tt} under has in
     let subuid = c.in_ok-allotment_of.ensures {u = tt}
     ∙ same-allotment asked c.in_ok-uid.uid (new_uid asked tables under)
-    c.subuid_ranges.result tables.subuid c.uid_bounds.result (uid_bounds_under under) uid
+    c.subuid_ranges.result.now tables.subuid c.uid_bounds.result (uid_bounds_under under) uid
     c.subuid_ranges.ensures (c.uid_bounds.ensures.given under has) in
     let subgid = c.in_ok-allotment_of-2.ensures {u = tt}
     ∙ same-allotment asked c.in_ok-uid.uid (new_uid asked tables under)
-    c.subgid_ranges.result tables.subgid c.gid_bounds.result (gid_bounds_under under) uid
+    c.subgid_ranges.result.now tables.subgid c.gid_bounds.result (gid_bounds_under under) uid
     c.subgid_ranges.ensures (c.gid_bounds.ensures.given under has) in
     λ i. record {
       own_group = c.makes_group.ensures under has i;
