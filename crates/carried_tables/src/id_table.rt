@@ -104,7 +104,7 @@ impl<R: IdRecord + Drop> IdTable<R> {
             has ≡ is_used (map R.id_of (table_records R.format self.now)) id) }
     {
         match &self.ids {
-            Some(ids) => Ok(ids.used.holds(id)),
+            Some(_) => Ok(self.used(alloc)?.ids().holds(id)),
             None => Ok(self.table.first_passing(alloc, &OfId { id })?.is_some()),
         }
     }

@@ -30,7 +30,7 @@ impl<'a> Model for IdsInUse<'a> {
 
 impl<'a> IdsInUse<'a> {
     /// The IDs that are gathered.
-    pub fn gathered(ids: UsedIds) -> Self
+    pub(crate) fn gathered(ids: UsedIds) -> Self
         ensures { result ≡ ids }
     {
         IdsInUse {
