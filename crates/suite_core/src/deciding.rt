@@ -13,11 +13,11 @@ ghost use Rattle.suite_core.specs.Deciding.{AnswersDecision, QuestionDecides, ba
 
 use acct_outside::Name;
 use acct_text::{Bytes, Files, NewTables, TABLE_LIMIT, Tab};
-use suite_tools::{Decision, Output};
 use login_defs::{Defs, DefsFault};
 use std::alloc::{AllocError, Global};
 use suite_answers::{Answer, Cause, Outcome, Which};
 use suite_session::{Decided, Question, Tools};
+use suite_tools::{Decision, Output};
 
 /// The tools of the suite, as one.
 #[derive(Drop)]
