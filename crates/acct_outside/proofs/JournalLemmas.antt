@@ -2,7 +2,7 @@
 -- and a call that gave no answer was refused, whichever it is (`refused`).
 use Rattle.std.proofs.Common.{◌≡◌, refl, ap, ◌∙◌, List, ◌∷◌, Result, Ok, Err}
 use Rattle.acct_outside.specs.declared.FolderFault.{FolderFault}
-use Rattle.acct_outside.specs.Calls.{Call, begins, lists, reads, asks, creates, writes, appends, renames, removes, answers}
+use Rattle.acct_outside.specs.Calls.{Call, lists}
 use Rattle.acct_outside.specs.Journal.{Entry, Settles, makes, plain_reply, replied, reply_of, was_done, was_refused}
 
 -- a call that was noted as refused, and then settled
@@ -17,12 +17,4 @@ settled call old between new (Err fault) noted settles = settles ∙ noted
 -- a call that gave no answer
 pub refused : (call : Call) (fault : FolderFault) → reply_of call (Err fault) ≡ was_refused
 refused lists fault = refl
-refused (begins command) fault = refl
-refused (reads name) fault = refl
-refused (asks token) fault = refl
-refused (creates number) fault = refl
-refused (writes name bytes) fault = refl
-refused (appends name piece) fault = refl
-refused (renames from to) fault = refl
-refused (removes name) fault = refl
-refused (answers status) fault = refl
+refused call fault = refl

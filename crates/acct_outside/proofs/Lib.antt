@@ -1,6 +1,7 @@
 mod Rows
 pub mod JournalLemmas
+pub mod NameLemmas
 pub mod PieceLemmas
 pub mod TokenLemmas
-pub mod OthersLemmas
+pub mod BegunLemmas
 pub mod Walks

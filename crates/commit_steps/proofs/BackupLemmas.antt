@@ -27,13 +27,13 @@ use Rattle.suite_rules.specs.Knowledge.{Knowledge, Seen, Stages, knows_none, bac
 use Rattle.suite_rules.specs.Standing.{Standing, standing_step}
 use Rattle.suite_rules.specs.Rules.{Permits, staging_rule, append_rule, move_rule, moves_backup}
 use Rattle.suite_rules.specs.Outcomes.{pieces_left}
-use Rattle.suite_rules.proofs.Names.{table-same}
+use Rattle.acct_outside.proofs.NameLemmas.{table-same}
 use Rattle.suite_rules.proofs.KeeperParts.{knows-next, staged-next}
 use Rattle.recovery.proofs.CarryLemmas.{whole-staged}
 use Rattle.lock_steps.specs.Stands.{Keeps}
 use Rattle.lock_steps.proofs.KeeperLemmas.{keeps-on, is-keeper}
 use Rattle.commit_steps.specs.States.{Change, Stager, Walker, append_intent, append_on, backup_pieces, changed, has_staged, intended, intent_left, intent_piece, next_table, old_bytes, old_files, begun_of, step_on, steps_left, walk_of}
-use Rattle.commit_steps.specs.Stands.{BacksUp, HasLoaded, HasStagedIntent, KnowsBackups, KnowsInputs}
+use Rattle.commit_steps.specs.Stands.{BacksUp, HasLoaded, HasStagedIntent, KnowsBackups}
 use Rattle.commit_steps.specs.Outcomes.{backs_up_more, backup_call}
 use Rattle.commit_steps.proofs.TablesLemmas.{with-next, all-done}
 use Rattle.commit_steps.proofs.InstallLemmas.{at-next, is-within, staged-some, step-unstaged, step-staged}
@@ -85,15 +85,6 @@ starts-backing change stood held = record {
       });
   uncommitted = held.uncommitted;
   staged = λ is. absurd (true≢false (sym is));
-}
-
--- one that backs up has loaded
-pub backs-loaded : (walker : Walker) (stood : Standing) → BacksUp walker stood →
-    HasLoaded walker.change.inputs stood
-backs-loaded walker stood held = record {
-  keeps = keeps-on walker.change.inputs.keeper (KnowsSoFar walker)
-      (KnowsInputs walker.change.inputs) stood stood refl refl held.keeps held.keeps.knows.inputs;
-  uncommitted = held.uncommitted;
 }
 
 -- The calls with the table at the place.

@@ -1,13 +1,12 @@
 -- Claims: where a read of the inputs leads on, the session stands with one more input seen
 -- (`load-leads`), and where it refuses the keeper is clean, or has seen the absent table and all
 -- before it (`load-refuses`). A clean keeper that hasn't called its commit stands at the start
--- (`starts-reading`), and one that has read all is clean (`loaded-clean`) and has seen the inputs
--- (`loaded-seen`). Way: a keeper that knows of no intent counts what it reads, and of a table and
+-- (`starts-reading`). Way: a keeper that knows of no intent counts what it reads, and of a table and
 -- login.defs each read counts under its own name.
 use Rattle.std.proofs.Common.{◌≡◌, refl, sym, ap, subst, ◌∙◌, ℕ, Bool, true, false, if◌then◌else◌, Option, Some, None, Result, Ok, Err, true≢false}
 use Rattle.std.specs.Prelude.{IfOk, IfErr}
 use Rattle.acct_text.specs.declared.Tab.{Tab}
-use Rattle.acct_text.specs.declared.Tab.TheVariants.{Passwd, Shadow, Group, Gshadow, Subuid, Subgid}
+use Rattle.acct_text.specs.declared.Tab.TheVariants.{Passwd}
 use Rattle.acct_text.specs.declared.files.Files.{Files}
 use Rattle.acct_text.specs.Bytes.{Bytes}
 use Rattle.acct_text.specs.Files.{table_of, with_table}
@@ -19,16 +18,15 @@ use Rattle.acct_outside.specs.declared.FolderFault.{FolderFault}
 use Rattle.acct_outside.specs.declared.Found.{Found as Reading}
 use Rattle.acct_outside.specs.Names.{name_limit}
 use Rattle.acct_outside.specs.Tokens.{Token}
-use Rattle.acct_outside.specs.Calls.{Command, Found, found_absent, found_bytes, found_too_large, reads, done}
+use Rattle.acct_outside.specs.Calls.{Found, found_absent, found_bytes, found_too_large, reads, done}
 use Rattle.acct_outside.specs.Moment.{Narrows, Moment}
-use Rattle.acct_outside.specs.Contract.{IsName, Tells, TellsRead, found_result}
+use Rattle.acct_outside.specs.Contract.{Tells, TellsRead, found_result}
 use Rattle.acct_outside.specs.declared.CommitStage.TheVariants.{Before}
 use Rattle.acct_text.specs.Limits.{table_limit}
 use Rattle.suite_rules.specs.Knowledge.{Knowledge, Seen, knows_none, whole_content, seen_with, input_step, read_step}
 use Rattle.suite_rules.specs.Standing.{Standing, standing_step}
-use Rattle.suite_rules.specs.Rules.{HasSeen}
 use Rattle.suite_rules.specs.Steps.{StandsIn}
-use Rattle.suite_rules.proofs.Names.{table-is}
+use Rattle.acct_outside.proofs.NameLemmas.{table-is}
 use Rattle.suite_rules.proofs.StepLemmas.{told-of, read-tells, stands-done}
 use Rattle.lock_steps.specs.States.{Kept}
 use Rattle.lock_steps.specs.Stands.{Keeps, KnowsNone}
@@ -41,11 +39,6 @@ use Rattle.commit_steps.specs.States.{AreSound, Reader, Inputs, is_before, input
 use Rattle.commit_steps.specs.Stands.{HasRead, HasLoaded, HasMissed, KnowsSome, KnowsInputs, StandsLoading, StandsEnded}
 use Rattle.commit_steps.specs.Outcomes.{Loads, is_missing}
 use Rattle.commit_steps.proofs.TablesLemmas.{before-after}
-
--- the next name is one of the folder
-pub next-is-name : (next : Option Tab) → IsName (next_name next)
-next-is-name None = tt
-next-is-name (Some table) = tt
 
 -- what is read of it is within the limit of a table
 pub next-limit : (next : Option Tab) → name_limit (next_name next) ≡ table_limit
@@ -79,34 +72,7 @@ starts-reading keeper stood keeps uncommitted = record {
   where
     none-before : (table : Tab) → is_before table (Some Passwd) ≡ true → ⊥
     none-before Passwd before = true≢false (sym before)
-    none-before Shadow before = true≢false (sym before)
-    none-before Group before = true≢false (sym before)
-    none-before Gshadow before = true≢false (sym before)
-    none-before Subuid before = true≢false (sym before)
-    none-before Subgid before = true≢false (sym before)
-
--- one that has read all is clean
-pub loaded-clean : (inputs : Inputs) (stood : Standing) → HasLoaded inputs stood →
-    Keeps inputs.keeper KnowsNone stood
-loaded-clean inputs stood held = keeps-on inputs.keeper (KnowsInputs inputs) KnowsNone
-    stood stood refl refl held.keeps (held.keeps.knows.seen, held.keeps.knows.clean)
-
--- one that was asked this has seen the inputs, as the rules ask of a commit
-pub loaded-seen : (inputs : Inputs) (command : Command) (stood : Standing) →
-    HasLoaded inputs stood → stood.command ≡ Some command →
-    (seen : Seen) × (stood.knows ≡ knows_none seen) × HasSeen stood.command seen
-loaded-seen inputs command stood held is_asked = (
-  held.keeps.knows.seen,
-  held.keeps.knows.clean,
-  record {
-    command = command;
-    files = table_of inputs.files;
-    defs = inputs.defs;
-    is_asked = is_asked;
-    each_table = held.keeps.knows.each_table;
-    settings = held.keeps.knows.settings;
-  },
-)
+    none-before table before = true≢false (sym before)
 
 -- the seen inputs with what was read of one name
 abbrev seeing : Name → Found → Seen → Seen
@@ -124,11 +90,7 @@ input-seen (Some table) found knows seen clean =
 -- a table of which bytes are there isn't missing
 pub never-missing : (table : Tab) (bytes : Bytes) → is_missing table (Some bytes) ≡ true → ⊥
 never-missing Passwd bytes is = true≢false (sym is)
-never-missing Group bytes is = true≢false (sym is)
-never-missing Shadow bytes is = true≢false (sym is)
-never-missing Gshadow bytes is = true≢false (sym is)
-never-missing Subuid bytes is = true≢false (sym is)
-never-missing Subgid bytes is = true≢false (sym is)
+never-missing table bytes is = true≢false (sym is)
 
 -- What a read leads to, by the next of the inputs.
 module _ (keeper : Kept) (files : Files) where
@@ -278,14 +240,8 @@ module _ (keeper : Kept) (files : Files) where
         all-read None found_absent refl inputs shown stands tells
     load-leads None (Ok (found_bytes bytes)) (Ok (Done inputs)) shown stands tells =
         all-read (Some bytes) (found_bytes bytes) refl inputs shown stands tells
-    load-leads (Some table) (Ok found_absent) (Ok (Done inputs)) shown stands tells = absurd shown
-    load-leads (Some table) (Ok (found_bytes bytes)) (Ok (Done inputs)) shown stands tells =
-        absurd shown
-    load-leads None (Ok found_absent) (Ok (More more)) shown stands tells = absurd shown
-    load-leads None (Ok (found_bytes bytes)) (Ok (More more)) shown stands tells = absurd shown
-    load-leads next (Ok found_too_large) (Ok loading) shown stands tells = absurd shown
-    load-leads next (Err fault) (Ok loading) shown stands tells = absurd shown
     load-leads next answer (Err end) shown stands tells = tt
+    load-leads next answer result shown stands tells = absurd shown
 
     -- a read that refuses
     pub load-refuses :
@@ -302,22 +258,6 @@ module _ (keeper : Kept) (files : Files) where
         table-missed table missing kept shown.1 shown.2 sound stands tells
     load-refuses (Some table) (Ok (found_bytes bytes)) (Err (NoTable missing kept))
         sound shown stands tells = absurd (never-missing table bytes shown.0)
-    load-refuses None (Ok found_absent) (Err (NoTable missing kept)) sound shown stands tells =
-        absurd shown
-    load-refuses None (Ok (found_bytes bytes)) (Err (NoTable missing kept))
-        sound shown stands tells = absurd shown
-    load-refuses (Some table) (Ok found_absent) (Err (TooLarge name kept))
-        sound shown stands tells = absurd shown
-    load-refuses (Some table) (Ok (found_bytes bytes)) (Err (TooLarge name kept))
-        sound shown stands tells = absurd shown
-    load-refuses None (Ok found_absent) (Err (TooLarge name kept)) sound shown stands tells =
-        absurd shown
-    load-refuses None (Ok (found_bytes bytes)) (Err (TooLarge name kept)) sound shown stands tells =
-        absurd shown
-    load-refuses next (Ok found_too_large) (Err (NoTable missing kept)) sound shown stands tells =
-        absurd shown
-    load-refuses next (Err fault) (Err (TooLarge name kept)) sound shown stands tells = absurd shown
-    load-refuses next (Err fault) (Err (NoTable missing kept)) sound shown stands tells =
-        absurd shown
     load-refuses next answer (Err (Fault fault)) sound shown stands tells = tt
     load-refuses next answer (Ok loading) sound shown stands tells = tt
+    load-refuses next answer result sound shown stands tells = absurd shown

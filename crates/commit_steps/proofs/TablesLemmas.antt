@@ -19,7 +19,7 @@ use Rattle.acct_text.proofs.FilesLemmas.{with_table-same, with_table-other}
 use Rattle.acct_text.specs.Tables.{all_tables, table_place, same_table}
 use Rattle.intent_file.specs.Intent.{NewTable}
 use Rattle.acct_text.specs.ChangedTables.{with_new_table, changed_among}
-use Rattle.suite_rules.proofs.Names.{table-is}
+use Rattle.acct_outside.proofs.NameLemmas.{table-is}
 use Rattle.commit_steps.specs.States.{Change, Walker, AreSound, has_staged, old_files, new_files, changed, table_after, is_before, steps_left, tables_left}
 use Rattle.commit_steps.specs.Outcomes.{is_missing}
 
@@ -116,17 +116,13 @@ before-after table other before differs = steps (table_place other) (table_place
   where
     counted : (table other : Tab) → is_before other (table_after table) ≡ true →
         table_place other < suc (table_place table)
-    counted Passwd other before = grind (arith, nat_tests, before)
-    counted Shadow other before = grind (arith, nat_tests, before)
-    counted Group other before = grind (arith, nat_tests, before)
-    counted Gshadow other before = grind (arith, nat_tests, before)
-    counted Subuid other before = grind (arith, nat_tests, before)
     counted Subgid Passwd before = omega arith
     counted Subgid Shadow before = omega arith
     counted Subgid Group before = omega arith
     counted Subgid Gshadow before = omega arith
     counted Subgid Subuid before = omega arith
     counted Subgid Subgid before = omega arith
+    counted table other before = grind (arith, nat_tests, before)
 
     steps : (place next : ℕ) → place < suc next → (place == next) ≡ false →
         nat_lt place next ≡ true
@@ -166,11 +162,7 @@ sound-on table content files sound stands limit = record {
         is_before Passwd (table_after table) ≡ true →
         IsSome (with_table table content files).passwd
     passwd-on Passwd content files sound stands before = stands-then content stands
-    passwd-on Shadow content files sound stands before = sound.passwd refl
-    passwd-on Group content files sound stands before = sound.passwd refl
-    passwd-on Gshadow content files sound stands before = sound.passwd refl
-    passwd-on Subuid content files sound stands before = sound.passwd refl
-    passwd-on Subgid content files sound stands before = sound.passwd refl
+    passwd-on table content files sound stands before = sound.passwd refl
 
     group-on : (table : Tab) (content : Option Bytes) (files : Files) →
         AreSound (Some table) files → is_missing table content ≡ false →
@@ -179,6 +171,4 @@ sound-on table content files sound stands limit = record {
     group-on Passwd content files sound stands before = absurd (true≢false (sym before))
     group-on Shadow content files sound stands before = absurd (true≢false (sym before))
     group-on Group content files sound stands before = stands-then content stands
-    group-on Gshadow content files sound stands before = sound.group refl
-    group-on Subuid content files sound stands before = sound.group refl
-    group-on Subgid content files sound stands before = sound.group refl
+    group-on table content files sound stands before = sound.group refl

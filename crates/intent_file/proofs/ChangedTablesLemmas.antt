@@ -21,8 +21,7 @@ use Rattle.intent_file.specs.Intent.{NewTable, intent_of, is_in_order, is_within
 pub content-is : (old new : Option Bytes) → same_content old new ≡ true → new ≡ old
 content-is None None same = refl
 content-is (Some b) (Some c) same = ap (λ (x : Bytes). Some x) (sym ((bytes_eq-Decides b c).0 same))
-content-is None (Some c) same = absurd (true≢false (sym same))
-content-is (Some b) None same = absurd (true≢false (sym same))
+content-is old new same = absurd (true≢false (sym same))
 
 -- each table has the place or a later one, and they are in order
 abbrev is_from : ℕ → List NewTable → Bool

@@ -12,7 +12,7 @@ use Rattle.std.proofs.lemmas.Fmt.{decimal_injective}
 use Rattle.std.proofs.lemmas.List.{append_cancel_left}
 use Rattle.std.proofs.lemmas.Bool.Decides.{nat_tests}
 use Rattle.acct_text.specs.declared.Tab.{Tab}
-use Rattle.acct_text.specs.declared.Tab.TheVariants.{Passwd, Shadow, Group, Gshadow, Subuid, Subgid}
+use Rattle.acct_text.specs.declared.Tab.TheVariants.{Passwd}
 use Rattle.acct_text.specs.Bytes.{Bytes, newline, blank}
 use Rattle.acct_text.specs.Limits.{table_limit}
 use Rattle.acct_text.specs.Pieces.{Lacks}
@@ -127,20 +127,12 @@ name_lacks table = lacks_by_test blank (table_name table) (no_blank table)
   where
     no_blank : (t : Tab) → list_all (λ byte. not (byte == blank)) (table_name t) ≡ true
     no_blank Passwd = refl
-    no_blank Shadow = refl
-    no_blank Group = refl
-    no_blank Gshadow = refl
-    no_blank Subuid = refl
-    no_blank Subgid = refl
+    no_blank t = refl
 
 -- a table is found by its name
 pub table_of_name-name : (table : Tab) → table_of_name (table_name table) ≡ table
 table_of_name-name Passwd = refl
-table_of_name-name Shadow = refl
-table_of_name-name Group = refl
-table_of_name-name Gshadow = refl
-table_of_name-name Subuid = refl
-table_of_name-name Subgid = refl
+table_of_name-name table = refl
 
 -- no two tables have one name
 pub name-injective : (table other : Tab) → table_name table ≡ table_name other → table ≡ other

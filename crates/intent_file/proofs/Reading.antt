@@ -7,7 +7,7 @@ use Rattle.std.proofs.lemmas.Bool.{and_parts}
 use Rattle.std.proofs.lemmas.Bool.Decides.{nat_tests}
 use Rattle.std.proofs.lemmas.Slice.Eq.{bytes_eq-Decides}
 use Rattle.acct_text.specs.declared.Tab.{Tab}
-use Rattle.acct_text.specs.declared.Tab.TheVariants.{Passwd, Shadow, Group, Gshadow, Subuid, Subgid}
+use Rattle.acct_text.specs.declared.Tab.TheVariants.{Passwd}
 use Rattle.acct_text.specs.Bytes.{Bytes}
 use Rattle.acct_text.specs.Tables.{table_place}
 use Rattle.intent_file.specs.declared.cursor.Header.{Header}
@@ -20,11 +20,7 @@ use Rattle.intent_file.proofs.SpelledLemmas.{spelled_version-part, spelled_numbe
 -- a table's place is one of six
 place-most : (table : Tab) → table_place table ≤ 5
 place-most Passwd = lit≤ tt
-place-most Shadow = lit≤ tt
-place-most Group = lit≤ tt
-place-most Gshadow = lit≤ tt
-place-most Subuid = lit≤ tt
-place-most Subgid = lit≤ tt
+place-most table = lit≤ tt
 
 -- tables in the fixed order are no more than the places from the first one on
 few_behind :

@@ -11,7 +11,7 @@ use Rattle.std.proofs.lemmas.List.{length-append, drop_more}
 use Rattle.std.proofs.lemmas.List.Elements.{All-cons, All-nil}
 use Rattle.std.proofs.lemmas.List.Sums.{sum_by-le}
 use Rattle.acct_text.specs.declared.Tab.{Tab}
-use Rattle.acct_text.specs.declared.Tab.TheVariants.{Passwd, Shadow, Group, Gshadow, Subuid, Subgid}
+use Rattle.acct_text.specs.declared.Tab.TheVariants.{Passwd}
 use Rattle.acct_text.specs.Bytes.{Bytes}
 use Rattle.acct_text.specs.Limits.{table_limit}
 use Rattle.acct_text.specs.Tables.{table_name}
@@ -27,11 +27,7 @@ use Rattle.intent_file.proofs.Reading.{at_most_six, allowed_parts}
 -- the name of a table is short
 pub name-most : (table : Tab) → length (table_name table) ≤ 7
 name-most Passwd = lit≤ tt
-name-most Shadow = lit≤ tt
-name-most Group = lit≤ tt
-name-most Gshadow = lit≤ tt
-name-most Subuid = lit≤ tt
-name-most Subgid = lit≤ tt
+name-most table = lit≤ tt
 
 -- the part of a table is its line, its bytes and a newline
 pub part-length : (new : NewTable)

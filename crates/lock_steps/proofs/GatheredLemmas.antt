@@ -1,9 +1,9 @@
 -- Claims: what is kept is what was found, before the first read behind the intent (`begun-found`) and after
--- each (`read-found`); the names that are left are unread (`first-unread`, `rest-unread`), and the files
+-- each (`read-found`); the names that are left are unread (`rest-unread`), and the files
 -- within their limit (`small-seen`, `small-with`).
 -- Way: a file that is read changes what is kept of its own name alone (`kept-there`, `kept-elsewhere`). Of
 -- the inputs those are left that aren't listed (`in-filter`), each once.
-use Rattle.std.proofs.Common.{◌≡◌, refl, sym, ap, ap₂, subst, ◌∙◌, ℕ, suc, ◌<◌, ◌≤◌, Bool, true, false, ◌||◌, ◌&&◌, if◌then◌else◌, List, [], ◌∷◌, ◌++◌, length, filter, get_or, drop, drop-cons, append_assoc, Option, Some, None, All, true≢false, arith}
+use Rattle.std.proofs.Common.{◌≡◌, refl, sym, ap, ap₂, subst, ◌∙◌, ◌<◌, ◌≤◌, Bool, true, false, ◌||◌, ◌&&◌, if◌then◌else◌, List, [], ◌∷◌, ◌++◌, length, filter, get_or, drop, Option, Some, None, All, true≢false, arith}
 use Rattle.std.specs.Prelude.{IfSome, is_none, is_some}
 use Rattle.std.proofs.Math.Bool.{and-false, or-false}
 use Rattle.std.proofs.lemmas.Bool.{and_left, or_from, or_parts}
@@ -19,29 +19,17 @@ use Rattle.acct_text.specs.Limits.{table_limit}
 use Rattle.acct_text.specs.SeenTables.{is_among, seen_of, seen_through}
 use Rattle.acct_text.specs.Tables.{same_table}
 use Rattle.acct_outside.specs.declared.Name.{Name}
-use Rattle.acct_outside.specs.declared.Name.TheVariants.{Table, Backup, Staged, Intent, IntentStage, BackupStage, FreeStage, Lock, Defs}
+use Rattle.acct_outside.specs.declared.Name.TheVariants.{Table, Intent, Defs}
 use Rattle.acct_outside.specs.Names.{same_name}
 use Rattle.acct_outside.specs.Calls.{Found, found_absent, found_bytes, found_too_large}
 use Rattle.intent_file.specs.Intent.{NewTable, listed_in}
 use Rattle.suite_rules.specs.Knowledge.{is_input}
 use Rattle.suite_rules.specs.Listing.{watched_with}
-use Rattle.suite_rules.proofs.Names.{table-is, table-same, table-turned, name-is, fails-apart}
-use Rattle.suite_rules.proofs.Numbers.{number-same}
+use Rattle.acct_outside.proofs.NameLemmas.{name-is, name-same, table-is}
+use Rattle.suite_rules.proofs.Names.{table-turned, fails-apart}
 use Rattle.lock_steps.specs.declared.gathered.IntentFound.{IntentFound}
 use Rattle.lock_steps.specs.Gathered.{AreSmall, AreUnread, Gathered, HasFound, TellsIntent, content_at, defs_with, files_with, awaits, first_gathered, found_as, gathered_at, held_of, inputs, is_in, is_known, is_large, is_readable, known_of, lacks, large_with, listed_at, names_behind, with_content, with_found, with_listed}
 use Rattle.acct_text.proofs.FilesLemmas.{seen-there, with_table-same, with_table-other}
-
--- a name is the same as itself by the test
-name-same : (name : Name) → same_name name name ≡ true
-name-same (Table table) = table-same table
-name-same (Backup table) = table-same table
-name-same (Staged table) = table-same table
-name-same (Lock number) = number-same number
-name-same Intent = refl
-name-same IntentStage = refl
-name-same BackupStage = refl
-name-same FreeStage = refl
-name-same Defs = refl
 
 -- the test takes either first
 name-turned : (name other : Name) → same_name other name ≡ false → same_name name other ≡ false
@@ -77,11 +65,7 @@ small-with table content files defs small limit = record {
 -- no file is there
 none-there : (table : Tab) → table_of no_files table ≡ None
 none-there Passwd = refl
-none-there Shadow = refl
-none-there Group = refl
-none-there Gshadow = refl
-none-there Subuid = refl
-none-there Subgid = refl
+none-there table = refl
 
 -- the listed files are within the limit, where the listed tables are
 small-listed : (tables : List NewTable) → All (λ new. length new.bytes ≤ table_limit) tables →
@@ -151,52 +135,6 @@ in-more : (name other : Name) (names : List Name) →
     is_in other (names ++ name ∷ []) ≡ (is_in other names || (same_name name other || false))
 in-more name other names = list_any-append (λ one. same_name one other) names (name ∷ [])
 
--- of unread names those that pass a test are unread
-unread-filter : (test : Name → Bool) (names : List Name) → AreUnread [] names →
-    AreUnread [] (filter test names)
-unread-filter test [] unread = tt
-unread-filter test (name ∷ names) unread =
-    cases (unread-filter test names unread.3) (test name) refl
-  where
-    cases : AreUnread [] (filter test names) → (passes : Bool) → test name ≡ passes →
-        AreUnread [] (if passes then name ∷ filter test names else filter test names)
-    cases rest true is = (
-      unread.0,
-      refl,
-      in-filter test name names ∙ (ap (λ (one : Bool). one && is_in name names) is ∙ unread.2),
-      rest,
-    )
-    cases rest false is = rest
-
--- what is left behind the intent is unread
-pub first-unread : (gathered : Gathered) → AreUnread [] (names_behind gathered)
-first-unread gathered = unread-filter (awaits gathered) inputs (
-  refl,
-  refl,
-  refl,
-  (
-    refl,
-    refl,
-    refl,
-    (
-      refl,
-      refl,
-      refl,
-      (
-        refl,
-        refl,
-        refl,
-        (
-          refl,
-          refl,
-          refl,
-          (refl, refl, refl, (refl, refl, refl, tt)),
-        ),
-      ),
-    ),
-  ),
-)
-
 -- the others stay unread where one more is told too large
 unread-more : (large : List Name) (name : Name) (names : List Name) → AreUnread large names →
     is_in name names ≡ false → AreUnread (large ++ name ∷ []) names
@@ -227,23 +165,6 @@ first-read large [] name found some is unread = absurd (omega (arith, some))
 first-read large (first ∷ names) name found some is unread =
     subst (λ (one : Name). AreUnread (large_with one found large) names) (sym is)
     (rest-unread large first names found unread)
-
--- one step of a walk over the names: the next is kept where it passes the test
-pub filter-step : (test : Name → Bool) (names kept : List Name) (place : ℕ) →
-    place < length names → (passes : Bool) → test (get_or names place Defs) ≡ passes →
-    (if passes then kept ++ get_or names place Defs ∷ [] else kept)
-    ++ filter test (drop (suc place) names) ≡ kept ++ filter test (drop place names)
-filter-step test names kept place inside passes is =
-    rw (drop-cons names place Defs inside) (rw is (cases passes))
-  where
-    cases : (passes : Bool) →
-        (if passes then kept ++ get_or names place Defs ∷ [] else kept)
-        ++ filter test (drop (suc place) names)
-        ≡ kept ++ (if passes then get_or names place Defs ∷ filter test (drop (suc place) names)
-        else filter test (drop (suc place) names))
-    cases true = append_assoc kept (get_or names place Defs ∷ [])
-        (filter test (drop (suc place) names))
-    cases false = refl
 
 -- of another name it is told as before whether it is too large
 large-elsewhere : (name other : Name) (found : Found) (large : List Name) →

@@ -1,18 +1,12 @@
--- The numbers of a listing: the greatest, found one by one (`greatest-from`) and in bounds
--- (`greatest-bound`), and those below one of them (`below-bound`).
+-- The numbers of a listing: the greatest, in bounds (`greatest-bound`), and those below one of them
+-- (`below-bound`).
 use Rattle.std.specs.Option.{option_to_list}
-use Rattle.std.proofs.Common.{◌≡◌, refl, ap, ℕ, Option, Some, None, ◌++◌, suc, ◌<◌, ◌≤◌, Bool, true, false, nat_lt, max, List, [], ◌∷◌, length, get_or, drop, cond, All, filter, drop-cons, arith}
+use Rattle.std.proofs.Common.{◌≡◌, refl, ℕ, Option, Some, None, ◌++◌, ◌<◌, ◌≤◌, Bool, true, false, nat_lt, List, [], ◌∷◌, length, get_or, cond, All, filter, arith}
 use Rattle.std.proofs.lemmas.Bool.Decides.{nat_tests}
 use Rattle.std.proofs.lemmas.List.Elements.{All-nil, All-cons, All-head, All-tail}
 use Rattle.acct_outside.specs.Names.{greatest_lock}
 use Rattle.acct_outside.specs.Folder.{greatest}
 use Rattle.acct_outside.specs.Contract.{IsLockNumber}
-
--- the greatest from a place on is that of the number there and of those behind it
-pub greatest-from : (numbers : List ℕ) (place : ℕ) → place < length numbers →
-    greatest (drop place numbers)
-    ≡ max (get_or numbers place 0) (greatest (drop (suc place) numbers))
-greatest-from numbers place inside = ap greatest (drop-cons numbers place 0 inside)
 
 -- lock numbers have a greatest that is in bounds
 pub greatest-bound : (numbers : List ℕ) → All IsLockNumber numbers →

@@ -8,12 +8,12 @@ use Rattle.acct_outside.specs.declared.FolderFault.{FolderFault}
 use Rattle.acct_outside.specs.declared.FolderFault.TheVariants.{Failed}
 use Rattle.acct_outside.specs.declared.Name.TheVariants.{FreeStage, Lock}
 use Rattle.acct_outside.specs.declared.Verdict.{Verdict}
-use Rattle.acct_outside.specs.declared.Verdict.TheVariants.{Alive, Dead}
+use Rattle.acct_outside.specs.declared.Verdict.TheVariants.{Dead}
 use Rattle.acct_outside.specs.declared.Created.{Created}
-use Rattle.acct_outside.specs.declared.Created.TheVariants.{Done, Exists}
+use Rattle.acct_outside.specs.declared.Created.TheVariants.{Done}
 use Rattle.acct_outside.specs.Faults.{CountsFailure}
 use Rattle.acct_outside.specs.Tokens.{Token, free_text}
-use Rattle.acct_outside.specs.Calls.{Answer, Call, CallResult, Found, found_absent, found_bytes, found_too_large, lists, reads, asks, creates, writes, renames, removes}
+use Rattle.acct_outside.specs.Calls.{Answer, Call, CallResult, Found, found_bytes, lists, reads, asks, creates, writes, renames, removes}
 use Rattle.acct_outside.specs.Moment.{Narrows, Moment}
 use Rattle.acct_outside.specs.Journal.{makes, reply_of}
 use Rattle.acct_outside.specs.Contract.{Passes, ReadsFolder, Tells, found_result}
@@ -128,10 +128,8 @@ module _ (before now : Moment) (narrows : Narrows before.admits now.admits) (tok
       (λ stood held. read-held seen text stood held asking shown.0
       (ap (λ (asker : Asker). asker.greatest) shown.1))
       before.told now.told stands tells
-  read-leads seen (Ok found_absent) (Ok told) shown stands tells = absurd shown
-  read-leads seen (Ok found_too_large) (Ok told) shown stands tells = absurd shown
-  read-leads seen (Err fault) (Ok told) shown stands tells = absurd shown
   read-leads seen answer (Err end) shown stands tells = tt
+  read-leads seen answer result shown stands tells = absurd shown
 
   -- a verdict
   pub ask-leads :
@@ -145,9 +143,8 @@ module _ (before now : Moment) (narrows : Narrows before.admits now.admits) (tok
       (HasReadHeld asking) (HasJudged judged) Dead
       (told-dead asking judged (ap (λ (lister : Lister). lister.greatest) shown))
       before.told now.told stands tells
-  ask-leads asking (Ok Alive) (Ok judged) shown stands tells = absurd shown
-  ask-leads asking (Err fault) (Ok judged) shown stands tells = absurd shown
   ask-leads asking answer (Err end) shown stands tells = tt
+  ask-leads asking answer result shown stands tells = absurd shown
 
   -- a create
   pub claim-leads :
@@ -161,9 +158,8 @@ module _ (before now : Moment) (narrows : Narrows before.admits now.admits) (tok
       (HasJudged judged) (HasMade claimed) Done
       (made (judged.greatest + 1) judged claimed (ap (λ (maker : Maker). maker.number) shown))
       before.told now.told stands tells
-  claim-leads judged (Ok Exists) (Ok claimed) shown stands tells = absurd shown
-  claim-leads judged (Err fault) (Ok claimed) shown stands tells = absurd shown
   claim-leads judged answer (Err end) shown stands tells = tt
+  claim-leads judged answer result shown stands tells = absurd shown
 
   -- a second listing
   pub confirm-leads :

@@ -12,7 +12,7 @@ use Rattle.acct_outside.specs.declared.Created.TheVariants.{Done}
 use Rattle.acct_outside.specs.declared.Verdict.TheVariants.{Dead}
 use Rattle.acct_outside.specs.Tokens.{held_text, free_text}
 use Rattle.acct_outside.specs.Folder.{greatest}
-use Rattle.acct_outside.specs.Calls.{Call, Answer, CallResult, lists, reads, asks, creates, writes, renames, removes, done, failed, died, found_bytes}
+use Rattle.acct_outside.specs.Calls.{Call, Answer, CallResult, lists, reads, asks, creates, writes, renames, removes, done, found_bytes}
 use Rattle.suite_rules.specs.OwnLock.{OwnLock, lock_made, lock_kept, lock_freed, makes, confirm_step, held_number, freed_at, own_step, has_called_create}
 use Rattle.suite_rules.specs.Listing.{Listing, new_listing, with_text, text_step, verdict_step, with_removed, is_held_in}
 use Rattle.suite_rules.specs.Knowledge.{Knowledge, knows_step}
@@ -279,8 +279,7 @@ module _ (freeing : Maker) (stood : Standing) (held : HasStagedFree freeing stoo
   knows-left : (result : CallResult (Answer move)) →
       knows_step stood.staged move result stood.knows ≡ stood.knows
   knows-left (done answer) = refl
-  knows-left (failed effect) = refl
-  knows-left (died effect) = refl
+  knows-left result = refl
 
   -- it leaves its work, whatever it answered
   pub move-leaves : (result : CallResult (Answer move)) →

@@ -2,11 +2,10 @@
 -- (`intent-leads`, `read-leads`, `confirm-leads`), and its next call is permitted (`next-intent`,
 -- `next-gathering`). Way: what is read once the greatest lock is judged is watched (`watches`), and a listing
 -- with the same greatest lock shows it (`shows`).
-use Rattle.std.proofs.Common.{◌≡◌, refl, sym, ap, ap₂, subst, ◌∙◌, ℕ, ◌<◌, ◌≤◌, ◌==◌, true, ◌&&◌, nat_le, List, [], ◌∷◌, length, get_or, slice_get, Option, Some, None, All, Result, Ok, Err, true≢false, arith}
+use Rattle.std.proofs.Common.{◌≡◌, refl, sym, ap, ap₂, subst, ◌∙◌, ℕ, ◌<◌, ◌==◌, true, ◌&&◌, List, [], ◌∷◌, length, get_or, slice_get, Option, Some, None, Result, Ok, Err, true≢false, arith}
 use Rattle.std.specs.Prelude.{IfOk, IfErr}
-use Rattle.std.proofs.lemmas.Bool.{and_from, and_parts, leb-true}
+use Rattle.std.proofs.lemmas.Bool.{and_from}
 use Rattle.std.proofs.lemmas.Bool.Decides.{Decides-eqb}
-use Rattle.std.proofs.lemmas.List.Elements.{All-cons, All-nil}
 use Rattle.acct_text.specs.declared.Tab.{Tab}
 use Rattle.acct_text.specs.Bytes.{Bytes}
 use Rattle.acct_outside.specs.declared.Name.{Name}
@@ -22,10 +21,10 @@ use Rattle.acct_text.specs.Limits.{table_limit}
 use Rattle.acct_outside.specs.Names.{name_limit}
 use Rattle.acct_outside.specs.Contract.{IsName, Tells, TellsRead, found_result}
 use Rattle.acct_outside.specs.Moment.{Narrows, Moment}
-use Rattle.intent_file.specs.Intent.{Intended, NewTable, ReadsIntent, is_allowed, is_within_limit, read_intent}
+use Rattle.intent_file.specs.Intent.{Intended, NewTable, ReadsIntent, read_intent}
 use Rattle.intent_file.specs.Parts.{FirstFault}
 use Rattle.intent_file.proofs.FirstFaultIsOne.{first_fault_is_one_holds}
-use Rattle.intent_file.proofs.Reading.{allowed_parts, computed_reads, reads_computes}
+use Rattle.intent_file.proofs.Reading.{computed_reads, reads_computes}
 use Rattle.suite_rules.specs.Knowledge.{is_input, is_watched}
 use Rattle.suite_rules.specs.Settled.{listed_by, tables_of_intent}
 use Rattle.suite_rules.specs.Listing.{Listing, watched_with, read_step}
@@ -263,20 +262,6 @@ listed-damaged bytes part fault = cases (read_intent bytes) refl
     cases (Some intended) is = absurd
         (first_fault_is_one_holds.none_if_read bytes part intended fault
         (computed_reads bytes intended is))
-
--- the tables of an intent that may stand are within the limit
-pub small-tables : (intended : Intended) → is_allowed intended ≡ true →
-    All (λ new. length new.bytes ≤ table_limit) intended.tables
-small-tables intended allowed = all intended.tables (allowed_parts intended allowed).within_limit
-  where
-    all : (tables : List NewTable) → is_within_limit tables ≡ true →
-        All (λ new. length new.bytes ≤ table_limit) tables
-    all [] within = All-nil (λ (new : NewTable). length new.bytes ≤ table_limit)
-    all (new ∷ tables) within =
-        let parts = and_parts (nat_le (length new.bytes) table_limit) (is_within_limit tables)
-        within in
-        All-cons (λ (new : NewTable). length new.bytes ≤ table_limit) new tables
-        (leb-true (length new.bytes) table_limit parts.0) (all tables parts.1)
 
 -- where the bytes at the intent lead on, the result is told as a read of them
 pub bytes-shown : (watcher : Lister) (wanted : List Tab) (bytes : Bytes) (intent : IntentFound)

@@ -17,9 +17,9 @@ use Rattle.memory_folder.specs.declared.event.Event.{Event as KeptEvent}
 use Rattle.memory_folder.specs.declared.event.Answer.{Answer as KeptAnswer}
 use Rattle.acct_outside.specs.Tokens.{Token}
 use Rattle.acct_outside.specs.Folder.{Folder}
-use Rattle.acct_outside.specs.Calls.{Call, Effect, happened, nothing, left, failed, creates, writes, appends, renames, removes, done, effect_of, changed_by}
+use Rattle.acct_outside.specs.Calls.{Call, Effect, happened, nothing, failed, creates, appends, renames, done, effect_of, changed_by}
 use Rattle.acct_outside.specs.History.{History, after_event, is_of, own_events}
-use Rattle.acct_outside.specs.Life.{Life, unbegun, running, faulted, ended, life, life_step, runs_in, is_running}
+use Rattle.acct_outside.specs.Life.{Life, unbegun, ended, life, life_step, runs_in, is_running}
 use Rattle.acct_outside.specs.Gives.{GivesEffect, GivesResult}
 use Rattle.acct_outside.specs.NamedCalls.{IsLaterCall, call_of}
 use Rattle.memory_folder.specs.Events.{MayFail, actual_effect, event_of, history_of, ends, call_event, result_in, answer_in, created_in, says_exists, answers_exists}
@@ -28,11 +28,7 @@ use Rattle.memory_folder.specs.Events.{MayFail, actual_effect, event_of, history
 pub nothing-changes : (token : Token) (call : Call) (folder : Folder)
     → changed_by token call nothing folder ≡ folder
 nothing-changes token (creates number) folder = refl
-nothing-changes token (writes name bytes) folder = refl
-nothing-changes token (appends name piece) folder = refl
-nothing-changes token (renames from to) folder = refl
-nothing-changes token (removes name) folder = refl
-nothing-changes token _ folder = refl
+nothing-changes token call folder = refl
 
 -- a create that found its lock did nothing
 create_exists : (number : ℕ) (created : Created) → says_exists created ≡ true
@@ -97,19 +93,10 @@ runs-step : (call : FolderCall) → IsLaterCall call → (outcome : Outcome) (l 
     ≡ runs_in l && not (ends call outcome)
 runs-step Begin later outcome l = absurd later
 runs-step (Answered status) later outcome unbegun = refl
-runs-step (Answered status) later outcome running = refl
-runs-step (Answered status) later outcome faulted = refl
-runs-step (Answered status) later outcome ended = refl
-runs-step _ later outcome ended = refl
-runs-step _ later (Done answer) unbegun = refl
-runs-step _ later (Done answer) running = refl
-runs-step _ later (Done answer) faulted = refl
-runs-step _ later (Failed effect) unbegun = refl
-runs-step _ later (Failed effect) running = refl
-runs-step _ later (Failed effect) faulted = refl
-runs-step _ later (Died effect) unbegun = refl
-runs-step _ later (Died effect) running = refl
-runs-step _ later (Died effect) faulted = refl
+runs-step _ later (Done answer) ended = refl
+runs-step _ later (Failed effect) ended = refl
+runs-step _ later (Died effect) ended = refl
+runs-step call later outcome life = refl
 
 -- a test that comes to nothing
 and_nothing : (runs last : Bool) → runs ≡ runs && not (last && false)
@@ -216,20 +203,12 @@ pub actual-given : (folder : Folder) (call : FolderCall) (effect : Effect)
     → GivesEffect folder (call_of call) (actual_effect folder (call_of call) effect)
 actual-given folder (Create number) happened =
     create-given folder number (is_none (folder.file (Lock number))) refl
-actual-given folder (Create number) nothing = tt
-actual-given folder (Create number) (left content) = tt
 actual-given folder (Append name piece) happened =
     append-given folder name piece (is_some (folder.file name)) refl
-actual-given folder (Append name piece) nothing = tt
-actual-given folder (Append name piece) (left content) = tt
 actual-given folder (Rename from to) happened =
     rename-given folder from to (is_some (folder.file from)) refl
-actual-given folder (Rename from to) nothing = tt
-actual-given folder (Rename from to) (left content) = tt
 actual-given folder (Remove name) happened = tt
-actual-given folder (Remove name) nothing = tt
-actual-given folder (Remove name) (left content) = tt
-actual-given folder _ effect = tt
+actual-given folder call effect = tt
 
 -- a call that may fail gives that it failed with such an effect
 pub failed-given : (folder : Folder) (history : History) (token : Token) (call : FolderCall)
@@ -239,12 +218,4 @@ pub failed-given : (folder : Folder) (history : History) (token : Token) (call :
     (failed (actual_effect folder (call_of call) effect))
 failed-given folder history token Begin may effect = absurd may
 failed-given folder history token (Answered status) may effect = absurd may
-failed-given folder history token (Create number) may effect =
-    actual-given folder (Create number) effect
-failed-given folder history token (Append name piece) may effect =
-    actual-given folder (Append name piece) effect
-failed-given folder history token (Rename from to) may effect =
-    actual-given folder (Rename from to) effect
-failed-given folder history token (Remove name) may effect =
-    actual-given folder (Remove name) effect
-failed-given folder history token _ may effect = tt
+failed-given folder history token call may effect = actual-given folder call effect

@@ -1,19 +1,18 @@
 -- A folder stays one when a file is put or taken away, and when a file is moved:
 -- its lock numbers are those of the locks that stand, ascending and in their bounds.
--- The claims are `IsFolder-with_file`, `IsFolder-without_file`, `IsFolder-moved` and
--- `IsFolder-folder_with`; and an append where nothing stands leaves it as it is (`appended-absent`).
-use Rattle.std.proofs.Common.{◌≡◌, refl, sym, ◌∙◌, ap, inl, inr, ℕ, ◌≤◌, Bool, true, false, cond, not, ◌||◌, ◌&&◌, ◌==◌, List, [], ◌∷◌, Option, None, Some, All, arith}
+-- The claims are `IsFolder-with_file`, `IsFolder-without_file` and `IsFolder-moved`; and an append
+-- where nothing stands leaves it as it is (`appended-absent`).
+use Rattle.std.proofs.Common.{◌≡◌, refl, sym, ◌∙◌, ap, inl, inr, ℕ, ◌≤◌, Bool, true, false, cond, not, ◌||◌, ◌&&◌, ◌==◌, Option, None, Some}
 use Rattle.std.specs.Option.{is_some}
 use Rattle.std.proofs.lemmas.Bool.{cases_Bool}
-use Rattle.std.proofs.lemmas.List.Elements.{All-head, All-tail, All-filter, All-nil, All-weaker}
+use Rattle.std.proofs.lemmas.List.Elements.{All-filter}
 use Rattle.acct_text.specs.Bytes.{Bytes}
 use Rattle.acct_outside.specs.declared.Name.{Name}
 use Rattle.acct_outside.specs.declared.Name.TheVariants.{Lock}
 use Rattle.acct_outside.specs.Names.{greatest_lock, same_name}
 use Rattle.acct_outside.specs.Folder.{Folder, IsFolder, has_number, locks_with, with_file, with_piece, appended, moved_content, moved}
 use Rattle.acct_outside.specs.Contract.{IsName, IsLockNumber}
-use Rattle.memory_folder.specs.Store.{empty_folder, with_files, folder_with}
-use Rattle.memory_folder.proofs.NameLemmas.{same_name-true}
+use Rattle.acct_outside.proofs.NameLemmas.{name-is}
 use Rattle.memory_folder.proofs.NumberLemmas.{has_with, has_without, without-absent, All-with, Ascends-with, Ascends-without}
 
 -- a lock number in its bounds, as a folder has it
@@ -73,28 +72,6 @@ IsFolder-without_file (Lock number) folder is = without_lock number folder is
 IsFolder-without_file _ folder is =
     record { standing = is.standing; ascending = is.ascending; in_bounds = is.in_bounds }
 
--- a folder with these contents is one
-pub IsFolder-with_files : (files : List (Name × Bytes)) → All (λ file. IsName file.0) files
-    → (folder : Folder) → IsFolder folder → IsFolder (with_files files folder)
-IsFolder-with_files [] names folder is = is
-IsFolder-with_files (file ∷ files) names folder is =
-    let P : Name × Bytes → Type 0 = λ file. IsName file.0 in
-    IsFolder-with_files files (All-tail P file files names) (with_file file.0 (Some file.1) folder)
-    (IsFolder-with_file file.0 (All-head P file files names) file.1 folder is)
-
--- nothing stands, and no lock number
-pub IsFolder-empty : IsFolder empty_folder
-IsFolder-empty = record {
-  standing = λ n. refl;
-  ascending = λ i j d low high. absurd (omega arith);
-  in_bounds = All-nil IsInBounds;
-}
-
--- the folder of contents whose lock numbers are in their bounds is one
-pub IsFolder-folder_with : (files : List (Name × Bytes)) → All (λ file. IsName file.0) files
-    → IsFolder (folder_with files)
-IsFolder-folder_with files names = IsFolder-with_files files names empty_folder IsFolder-empty
-
 -- a folder in which these bytes were moved from one name to another is one
 pub IsFolder-moved_content : (content : Option Bytes) (from to : Name) → IsName to
     → (folder : Folder) → IsFolder folder → IsFolder (moved_content content from to folder)
@@ -109,19 +86,13 @@ pub IsFolder-moved : (from to : Name) → IsName to → (folder : Folder)
 IsFolder-moved from to bounds folder is =
     IsFolder-moved_content (folder.file from) from to bounds folder is
 
--- the numbers of the locks of a folder are lock numbers
-pub in_bounds-are : (folder : Folder) → IsFolder folder → All IsLockNumber folder.locks
-in_bounds-are folder is =
-    All-weaker IsInBounds IsLockNumber (λ n bounds. record { low = bounds.0; high = bounds.1 })
-    folder.locks is.in_bounds
-
 -- what stands at each name once a name where nothing stood is taken away
 file_without-absent : (name other : Name) (folder : Folder)
     → folder.file name ≡ None
     → folder.file other ≡ (with_file name None folder).file other
 file_without-absent name other folder none =
     elim (cases_Bool (same_name other name)) [
-      | inl hit ↦ rw hit (ap folder.file (same_name-true other name hit) ∙ none)
+      | inl hit ↦ rw hit (ap folder.file (name-is other name hit) ∙ none)
       | inr miss ↦ rw miss refl
     ]
 

@@ -1,4 +1,3 @@
-pub mod NameLemmas
 pub mod StoreLemmas
 pub mod TokenLemmas
 pub mod NewTokenLemmas

@@ -8,15 +8,15 @@ use Rattle.acct_outside.specs.declared.Name.{Name}
 use Rattle.acct_outside.specs.Names.{same_name}
 use Rattle.acct_outside.specs.Folder.{Folder, with_file}
 use Rattle.memory_folder.specs.Store.{file_in, folder_of, with_files}
-use Rattle.memory_folder.proofs.NameLemmas.{same_name-true, same_name-self}
+use Rattle.acct_outside.proofs.NameLemmas.{name-is, name-same}
 
 -- a name that isn't another isn't it the other way round either
 else_back : (name other : Name) → same_name other name ≡ false → same_name name other ≡ false
 else_back name other isnt = elim (cases_Bool (same_name name other)) [
   | inl hit ↦ absurd (
-      let same : name ≡ other = same_name-true name other hit in
+      let same : name ≡ other = name-is name other hit in
       let at : same_name other name ≡ true =
-      subst (λ n. same_name other n ≡ true) (sym same) (same_name-self other) in
+      subst (λ n. same_name other n ≡ true) (sym same) (name-same other) in
       cc (at, isnt))
   | inr miss ↦ miss
 ]
@@ -34,7 +34,7 @@ module _ (name : Name) where
       → same_name here other ≡ false
   apart here other is isnt = elim (cases_Bool (same_name here other)) [
     | inl hit ↦ absurd (
-        let same : here ≡ other = same_name-true here other hit in
+        let same : here ≡ other = name-is here other hit in
         let at : same_name other name ≡ true = subst (λ n. same_name n name ≡ true) same is in
         cc (at, isnt))
     | inr miss ↦ miss
@@ -47,7 +47,7 @@ module _ (name : Name) where
       → same_name here other ≡ true
       → same_name other name ≡ false
   else_apart here other isnt hit =
-      subst (λ n. same_name n name ≡ false) (same_name-true here other hit) isnt
+      subst (λ n. same_name n name ≡ false) (name-is here other hit) isnt
 
   -- at the name nothing is left, and at others what stood
   pub file_in-others :
@@ -98,9 +98,9 @@ file_in-put files name bytes other old before =
     λ o. or_else o (cond (same_name name other) (Some bytes) None) in
     file_in-append files ((name, bytes) ∷ []) other ∙ elim (cases_Bool (same_name other name)) [
       | inl is ↦
-          let same : other ≡ name = same_name-true other name is in
+          let same : other ≡ name = name-is other name is in
           let back : same_name name other ≡ true =
-          subst (λ n. same_name name n ≡ true) (sym same) (same_name-self name) in
+          subst (λ n. same_name name n ≡ true) (sym same) (name-same name) in
           ap put (before ∙ cond-true _ _ _ is)
           ∙ cond-true _ _ _ back ∙ sym (cond-true _ _ _ is)
       | inr isnt ↦

@@ -1,13 +1,13 @@
--- Lists of tokens, and the sessions that run after a begin or an end.
+-- Lists of tokens, and the sessions that run after a begin.
 use Rattle.std.proofs.Common.{◌≡◌, ℕ, zero, suc, ◌<◌, Bool, true, false, not, ◌||◌, ◌&&◌, List, [], ◌∷◌, ◌++◌, length, take, drop, get_or, refl, sym, ◌∙◌, ap, subst, inl, inr, arith}
 use Rattle.std.specs.Prelude.{bytes_eq}
 use Rattle.std.specs.List.{filter}
 use Rattle.std.proofs.lemmas.Bool.{cases_Bool}
 use Rattle.acct_outside.specs.Tokens.{Token}
-use Rattle.acct_outside.specs.Calls.{Call, Answer, CallResult, Command, Effect, begins, answers, done, died}
-use Rattle.acct_outside.specs.History.{Event, History, own_events}
+use Rattle.acct_outside.specs.Calls.{Command, begins, done}
+use Rattle.acct_outside.specs.History.{History, own_events}
 use Rattle.acct_outside.proofs.TokenLemmas.{bytes_eq-self, bytes_eq-true, unbegun-without}
-use Rattle.acct_outside.specs.Life.{Life, unbegun, running, faulted, ended, life, life_step, runs_in, is_running}
+use Rattle.acct_outside.specs.Life.{unbegun, life, is_running}
 use Rattle.memory_folder.specs.Events.{has_token}
 
 -- a token that isn't one isn't it the other way round either
@@ -31,11 +31,6 @@ either_not false false = refl
 and_false : (h : Bool) → h && false ≡ false
 and_false true = refl
 and_false false = refl
-
--- a test that passes changes no other
-and_true : (h : Bool) → h && true ≡ h
-and_true true = refl
-and_true false = refl
 
 -- nor does one that fails, as the other of two
 or_false : (h : Bool) → h || false ≡ h
@@ -128,40 +123,4 @@ begin-runs token command history none other = elim (cases_Bool (bytes_eq token o
       (bytes_eq-true token other same) (unbegun-without token history none) in
       rw (same, at) refl
   | inr apart ↦ rw apart (sym (or_false (is_running other history)))
-]
-
--- a call that ends its session
-abbrev pub Ends : (call : Call) → CallResult (Answer call) → Type 0
-Ends call result = (l : Life) → runs_in l ≡ true → runs_in (life_step call result l) ≡ false
-
--- an answer ends it
-pub answer-ends : (status : ℕ) (result : CallResult (Unit {0})) → Ends (answers status) result
-answer-ends status result unbegun runs = absurd cc
-answer-ends status result running runs = refl
-answer-ends status result faulted runs = refl
-answer-ends status result ended runs = absurd cc
-
--- and so does a death
-pub death-ends : (call : Call) (effect : Effect) → Ends call (died effect)
-death-ends _ effect unbegun runs = absurd cc
-death-ends (answers status) effect running runs = refl
-death-ends _ effect running runs = refl
-death-ends (answers status) effect faulted runs = refl
-death-ends _ effect faulted runs = refl
-death-ends _ effect ended runs = absurd cc
-
--- the sessions that run after the end of one
-pub end-runs :
-    (e : Event)
-    → Ends e.call e.result
-    → (history : History)
-    → is_running e.token history ≡ true
-    → (other : Token)
-    → is_running other (e ∷ history) ≡ is_running other history && not (bytes_eq e.token other)
-end-runs e ends history runs other = elim (cases_Bool (bytes_eq e.token other)) [
-  | inl same ↦
-      let at : is_running other history ≡ true =
-      subst (λ (t : Token). is_running t history ≡ true) (bytes_eq-true e.token other same) runs in
-      rw same (ends (life other history) at ∙ sym (and_false (is_running other history)))
-  | inr apart ↦ rw apart (sym (and_true (is_running other history)))
 ]

@@ -21,7 +21,7 @@ use Rattle.acct_outside.proofs.TokenLemmas.{bytes_eq-self, unbegun-without}
 use Rattle.memory_folder.proofs.TokenLemmas.{begin-runs, or_true}
 use Rattle.acct_outside.specs.Others.{ByOthers, none_came}
 use Rattle.acct_outside.specs.Moment.{Past}
-use Rattle.acct_outside.specs.Contract.{was_begun, MayAct, MayAnswer, WhereTold, TellsCall, TellsEvent, TellsBegin}
+use Rattle.acct_outside.specs.Contract.{was_begun, MayAct, WhereTold, TellsCall, TellsEvent, TellsBegin}
 use Rattle.memory_folder.specs.Logged.{with_event}
 use Rattle.memory_folder.specs.NewTokens.{IsFirstUnused}
 use Rattle.memory_folder.specs.Memory.{moment_of, no_others, past_of, Runs, TellsAct, TellsFault}
@@ -222,9 +222,3 @@ may_act folder token is = record {
   begun = running-begun (life token (past_of folder).history) is.runs;
   own = λ history e admitted same. absurd admitted;
 }
-
--- a session that runs in a folder in memory may answer
-pub may_answer : (folder : MemoryFolder) (token : Token) → Runs folder token
-    → MayAnswer (moment_of folder) token
-may_answer folder token is =
-    record { runs = is.runs; own = λ history e admitted same. absurd admitted }

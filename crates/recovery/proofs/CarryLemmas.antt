@@ -24,7 +24,7 @@ use Rattle.suite_rules.specs.Knowledge.{Knowledge, Stages, install_step, table_w
 use Rattle.suite_rules.specs.Standing.{Standing, standing_step}
 use Rattle.suite_rules.specs.Rules.{KeeperRule, KnowsIntent, Permits, append_rule, staging_rule, install_rule, clear_rule}
 use Rattle.suite_rules.specs.Outcomes.{stages, stages_more, installs, pieces_left}
-use Rattle.suite_rules.proofs.Names.{table-same}
+use Rattle.acct_outside.proofs.NameLemmas.{table-same}
 use Rattle.suite_rules.proofs.Listed.{first-of, none-of, listed-there, all-in-place}
 use Rattle.suite_rules.proofs.KeeperParts.{knows-next, staged-next}
 use Rattle.lock_steps.specs.States.{Kept}

@@ -83,11 +83,8 @@ module _ (before now : Moment) (narrows : Narrows before.admits now.admits) (tok
   read-leads keeper (Ok (found_bytes bytes)) (Ok (Listed recovering)) shown stands tells =
       read-done keeper (Recovers recovering) (found_bytes bytes)
       (λ stood keeps. recovers-after-read keeper stood keeps bytes recovering shown) stands tells
-  read-leads keeper (Ok found_absent) (Ok (Listed recovering)) shown stands tells = absurd shown
-  read-leads keeper (Ok (found_bytes bytes)) (Ok (Clean kept)) shown stands tells = absurd shown
-  read-leads keeper (Ok found_too_large) (Ok seen) shown stands tells = absurd shown
-  read-leads keeper (Err fault) (Ok seen) shown stands tells = absurd shown
   read-leads keeper answer (Err end) shown stands tells = tt
+  read-leads keeper answer result shown stands tells = absurd shown
 
   -- a read of the intent that refuses
   pub read-refuses :

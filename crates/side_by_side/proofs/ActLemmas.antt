@@ -12,7 +12,7 @@ use Rattle.acct_outside.specs.declared.FolderFault.TheVariants.{Memory as NoMemo
 use Rattle.acct_outside.specs.Tokens.{IsToken, Token}
 use Rattle.acct_outside.specs.Calls.{Call, Effect, answers, died}
 use Rattle.acct_outside.specs.History.{Event, History, is_of, own_events}
-use Rattle.acct_outside.specs.Life.{Life, unbegun, running, faulted, ended, life, life_step, runs_in, is_running}
+use Rattle.acct_outside.specs.Life.{Life, unbegun, running, ended, life, life_step, runs_in, is_running}
 use Rattle.memory_folder.specs.Logged.{with_event}
 use Rattle.acct_outside.specs.Journal.{Entry}
 use Rattle.acct_outside.specs.Moment.{Past}
@@ -200,12 +200,10 @@ death-ended token call effect history runs =
   where
     by-life : (call : Call) (before : Life) → runs_in before ≡ true →
         life_step call (died effect) before ≡ ended
-    by-life call unbegun is = absurd (true≢false (sym is))
     by-life (answers status) running is = refl
-    by-life _ running is = refl
-    by-life (answers status) faulted is = refl
-    by-life _ faulted is = refl
+    by-life call unbegun is = absurd (true≢false (sym is))
     by-life call ended is = absurd (true≢false (sym is))
+    by-life call before is = refl
 
 module _ (before now : Telling) where
   module _ (token : Token) (call : Call) (effect : Effect) where
@@ -240,15 +238,11 @@ module _ (before now : Telling) where
   -- the first claim, of a death
   pub death-does : (effect : CallEffect) (old new : Phase) → Dies before now effect old new →
       Does before now old new
-  death-does effect (Waiting asked) new is =
-      does-nothing before now (Waiting asked) new is.dies.1 is.faults (ap token_of is.dies.0)
   death-does effect (Begun runner state) new is =
       one-dies runner.token _ _ (Begun runner state) new is.dies.1.told is.lawful is.faults refl
       (ap token_of is.dies.0)
-  death-does effect (Over runner answer) new is =
-      does-nothing before now (Over runner answer) new is.dies.1 is.faults (ap token_of is.dies.0)
-  death-does effect (Unbegun tool answer) new is =
-      does-nothing before now (Unbegun tool answer) new is.dies.1 is.faults (ap token_of is.dies.0)
+  death-does effect old new is =
+      does-nothing before now old new is.dies.1 is.faults (ap token_of is.dies.0)
 
   -- where nothing came, a session takes part still
   same-takes : (session new : Phase) → now.past ≡ before.past → now.faults ≡ before.faults →
@@ -314,9 +308,7 @@ module _ (before now : Telling) (old new : Phase) (does : Does before now old ne
         λ token is also. does.keeps_apart runner.token
             (ended-begun before.past runner.token dead) own_apart (is ∙ sym also),
       )
-  died-stays (Waiting asked) apart dead = absurd dead
-  died-stays (Over runner answer) apart dead = absurd dead
-  died-stays (Unbegun tool answer) apart dead = absurd dead
+  died-stays other apart dead = absurd dead
 
   -- the second claim
   pub other-stays : KeepsOthers (moment_in before) (moment_in now) old new → (other : Phase) →

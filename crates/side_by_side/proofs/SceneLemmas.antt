@@ -10,8 +10,8 @@ use Rattle.std.proofs.lemmas.Grind.{get_or-set_at}
 use Rattle.acct_outside.specs.Tokens.{Token}
 use Rattle.acct_outside.specs.Folder.{Folder}
 use Rattle.acct_outside.specs.History.{Event, History, is_of}
-use Rattle.acct_outside.specs.Calls.{Answer, Call, CallResult, answers, done, failed, died}
-use Rattle.acct_outside.specs.Life.{Life, unbegun, running, faulted, ended, life, life_step}
+use Rattle.acct_outside.specs.Calls.{Answer, Call, CallResult, answers, done}
+use Rattle.acct_outside.specs.Life.{Life, unbegun, running, faulted, life, life_step}
 use Rattle.acct_outside.specs.Contract.{has_begun, was_begun}
 use Rattle.acct_outside.specs.Others.{Admission, ByOthers, none_came, one_came}
 use Rattle.suite_session.specs.declared.session.Phase.{Phase}
@@ -74,15 +74,11 @@ apart-at sessions apart k place d within low other = elim (cases_order k place) 
 begun-step : (call : Call) (result : CallResult (Answer call)) (before : Life) →
     was_begun before ≡ true → was_begun (life_step call result before) ≡ true
 begun-step call result unbegun is = absurd (true≢false (sym is))
-begun-step call result ended is = refl
 begun-step (answers status) result running is = refl
 begun-step _ (done answer) running is = refl
-begun-step _ (failed effect) running is = refl
-begun-step _ (died effect) running is = refl
 begun-step (answers status) result faulted is = refl
 begun-step _ (done answer) faulted is = refl
-begun-step _ (failed effect) faulted is = refl
-begun-step _ (died effect) faulted is = refl
+begun-step call result before is = refl
 
 -- so does a session after an event
 pub begun-event : (token : Token) (event : Event) (history : History) →

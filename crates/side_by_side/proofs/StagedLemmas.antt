@@ -17,15 +17,15 @@ use Rattle.acct_outside.specs.Journal.{Entry}
 use Rattle.acct_outside.specs.Contract.{MayAct, MayAnswer, NeverAdmits, Passes, TellsBegin, TellsCall, TellsEvent, WhereTold, has_begun, was_begun}
 use Rattle.acct_outside.specs.Faults.{CountsFailure}
 use Rattle.acct_outside.specs.History.{Event, History, own_events}
-use Rattle.acct_outside.specs.Life.{Life, life, runs_in, unbegun, running, faulted, ended}
+use Rattle.acct_outside.specs.Life.{Life, life, runs_in, unbegun, ended}
 use Rattle.memory_folder.specs.Memory.{no_others}
 use Rattle.acct_outside.specs.Others.{ByOthers, none_came, one_came}
-use Rattle.acct_outside.proofs.OthersLemmas.{begun-running}
+use Rattle.acct_outside.proofs.BegunLemmas.{begun-running}
 use Rattle.acct_outside.proofs.TokenLemmas.{bytes_eq-self}
 use Rattle.suite_rules.specs.Deeds.{SuiteDeeds}
 use Rattle.suite_rules.specs.Lawful.{Lawful, goes_on}
 use Rattle.suite_session.specs.declared.session.Phase.{Phase}
-use Rattle.suite_session.specs.declared.session.Phase.TheVariants.{Waiting, Begun, Over, Unbegun}
+use Rattle.suite_session.specs.declared.session.Phase.TheVariants.{Begun}
 use Rattle.suite_session.specs.Belongs.{OthersCame, of_others}
 use Rattle.suite_session.specs.Session.{token_of}
 use Rattle.suite_session.proofs.BelongsLemmas.{belonging-stays, present}
@@ -168,9 +168,7 @@ module _ (before now : Telling) (token : Token) (one : OneCame before now token)
           HasDied now session
       by-phase (Begun runner state) apart has = ended-still before now token one runner.token
           (λ is. apart (ap (λ (own : Token). Some own) is)) has
-      by-phase (Waiting asked) apart has = absurd has
-      by-phase (Over runner answer) apart has = absurd has
-      by-phase (Unbegun tool answer) apart has = absurd has
+      by-phase session apart has = absurd has
 
   -- so all take part still, where none has the token
   pub part-after : (sessions : List Phase) →
@@ -232,9 +230,7 @@ module _ (here : Scene) (token : Token) where
     where
       by-life : (now : Life) → runs_in now ≡ true → was_begun now ≡ true
       by-life unbegun is = absurd (true≢false (sym is))
-      by-life running is = refl
-      by-life faulted is = refl
-      by-life ended is = refl
+      by-life now is = refl
 
   -- of an outsider no event is admitted
   pub never-outsiders : IsOutsider here token → NeverAdmits (by_sessions here) token
@@ -382,9 +378,7 @@ module _ (told : Telling) where
                 has.ended)),
             λ none. has.named (same ∙ none),
           )
-      by-phase (Waiting asked) has at = absurd has
-      by-phase (Over runner answer) has at = absurd has
-      by-phase (Unbegun tool answer) has at = absurd has
+      by-phase session has at = absurd has
 
 -- what follows the first of a list
 behind : (one same : Event) (rest none : History) → one ∷ rest ≡ same ∷ none → rest ≡ none

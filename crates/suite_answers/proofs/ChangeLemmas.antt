@@ -9,7 +9,7 @@ use Rattle.acct_text.specs.Bytes.{Bytes}
 use Rattle.acct_text.specs.Contents.{same_content}
 use Rattle.acct_text.specs.declared.files.Files.{Files}
 use Rattle.account_model.specs.declared.tool.Tool.{Tool}
-use Rattle.account_model.specs.declared.tool.Tool.TheVariants.{Useradd, Usermod, Userdel, Groupadd, Groupmod, Groupdel, Gpasswd, Chage, Chpasswd, Pwck, Grpck, Getsubids, Batch}
+use Rattle.account_model.specs.declared.tool.Tool.TheVariants.{Groupadd, Chage, Pwck, Grpck, Batch}
 use Rattle.account_model.specs.declared.refusal.Refusal.{Refusal}
 use Rattle.account_model.specs.Text.{first_some}
 use Rattle.account_model.specs.Settings.{Setting, settings_of}
@@ -41,21 +41,13 @@ by-choice false one other is also = also
 -- so it is for each tool
 is-plain : (tool : Tool) (request : Request) (input : Bytes) (day : ℕ) (files : Files)
     (settings : List Setting) → IsPlain (action_by tool request input day files settings)
-is-plain Useradd request input day files settings = inl refl
-is-plain Usermod request input day files settings = inl refl
-is-plain Userdel request input day files settings = inl refl
 is-plain Groupadd request input day files settings = by-choice _ _ _ (inl refl) (inl refl)
-is-plain Groupmod request input day files settings = inl refl
-is-plain Groupdel request input day files settings = inl refl
-is-plain Gpasswd request input day files settings = inl refl
 is-plain Chage request input day files settings = by-choice _ _ _ (inl refl) (inl refl)
-is-plain Chpasswd request input day files settings = inl refl
 is-plain Pwck request input day files settings = by-choice (has_option (codes "s") request)
     (changes [] (pwck_sort files)) (pwck_report request files day) (inl refl) (inr refl)
 is-plain Grpck request input day files settings = by-choice (has_option (codes "s") request)
     (changes [] (grpck_sort files)) (grpck_report files) (inl refl) (inr refl)
-is-plain Getsubids request input day files settings = inl refl
-is-plain Batch request input day files settings = inl refl
+is-plain tool request input day files settings = inl refl
 
 -- ---- Files that stay
 

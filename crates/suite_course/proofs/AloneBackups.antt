@@ -30,7 +30,8 @@ use Rattle.suite_rules.specs.Committed.{Commitment, commitment_of, commits, comm
 use Rattle.suite_rules.specs.Invariant.{KnownStands, NoneStands, KeeperView}
 use Rattle.suite_rules.specs.Laws.{IsCleanKeeper}
 use Rattle.suite_rules.specs.OwnLock.{kept_number, made_number}
-use Rattle.suite_rules.proofs.Names.{fails-apart, table-is, table-same}
+use Rattle.acct_outside.proofs.NameLemmas.{table-is, table-same}
+use Rattle.suite_rules.proofs.Names.{fails-apart}
 use Rattle.suite_rules.proofs.Commitments.{fold-append}
 use Rattle.suite_rules.proofs.Settles.{file-facts, lawful-settles}
 use Rattle.suite_rules.proofs.Places.{places-stay}

@@ -8,12 +8,12 @@ use Rattle.std.proofs.lemmas.Bool.Decides.{Decides-eqb}
 use Rattle.acct_text.specs.Bytes.{Bytes}
 use Rattle.acct_outside.specs.declared.Name.{Name}
 use Rattle.acct_outside.specs.declared.Name.TheVariants.{Intent, FreeStage, Lock}
-use Rattle.acct_outside.specs.declared.Created.TheVariants.{Done, Exists}
+use Rattle.acct_outside.specs.declared.Created.TheVariants.{Done}
 use Rattle.acct_outside.specs.Tokens.{Token, free_text}
 use Rattle.acct_outside.specs.Folder.{Folder, greatest, moved_content}
 use Rattle.acct_outside.specs.Calls.{Call, Answer, CallResult, Effect, begins, lists, reads, asks, creates, renames, removes, answers, done, failed, died, happened, nothing, left, effect_of, changed_by}
 use Rattle.acct_outside.specs.History.{History}
-use Rattle.acct_outside.specs.Life.{Life, unbegun, running, faulted, ended, life, MayCall}
+use Rattle.acct_outside.specs.Life.{Life, running, life, MayCall}
 use Rattle.suite_rules.specs.Deeds.{SuiteDeeds}
 use Rattle.suite_rules.specs.OwnLock.{OwnLock, lock_uncalled, lock_made, lock_kept, lock_freed, confirm_step, create_step, free_step, own_step}
 use Rattle.suite_rules.specs.Knowledge.{Stages, Knowledge, knows_step}
@@ -63,27 +63,20 @@ confirm-freed number greatest own is = is
 create-freed : (number lock : ℕ) (result : CallResult (Answer (creates lock))) →
     create_step lock result lock_uncalled ≡ lock_freed number → ⊥
 create-freed number lock (done Done) is = cc is
-create-freed number lock (done Exists) is = cc is
 create-freed number lock (failed happened) is = cc is
-create-freed number lock (failed nothing) is = cc is
-create-freed number lock (failed (left content)) is = cc is
 create-freed number lock (died happened) is = cc is
-create-freed number lock (died nothing) is = cc is
-create-freed number lock (died (left content)) is = cc is
+create-freed number lock result is = cc is
 
 -- a session that may move a file runs without a failed call
 move-runs : (from to : Name) (lived : Life) → MayCall lived (renames from to) → lived ≡ running
 move-runs from to running may = refl
-move-runs from to unbegun may = absurd may
-move-runs from to faulted may = absurd may
-move-runs from to ended may = absurd may
+move-runs from to lived may = absurd may
 
 -- a move of the free text leaves what is known
 free-knows : (lock : ℕ) (result : CallResult (Unit {0})) (staged : Stages) (knows : Knowledge) →
     knows_step staged (renames FreeStage (Lock lock)) result knows ≡ knows
 free-knows lock (done answer) staged knows = refl
-free-knows lock (failed effect) staged knows = refl
-free-knows lock (died effect) staged knows = refl
+free-knows lock result staged knows = refl
 
 module _ (deeds : SuiteDeeds) (past : History) (token : Token) (folder : Folder)
     (stood : Standing) (held : StaysFreed folder stood)

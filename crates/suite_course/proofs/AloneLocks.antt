@@ -12,7 +12,7 @@ use Rattle.acct_outside.specs.declared.Name.{Name}
 use Rattle.acct_outside.specs.declared.Name.TheVariants.{Table, Backup, Staged, Intent, IntentStage, BackupStage, FreeStage, Lock}
 use Rattle.acct_outside.specs.declared.Verdict.{Verdict}
 use Rattle.acct_outside.specs.declared.Verdict.TheVariants.{Alive, Dead}
-use Rattle.acct_outside.specs.declared.Created.TheVariants.{Done, Exists}
+use Rattle.acct_outside.specs.declared.Created.TheVariants.{Done}
 use Rattle.acct_outside.specs.Names.{is_staging}
 use Rattle.acct_outside.specs.Tokens.{Token, held_text, free_text}
 use Rattle.acct_outside.specs.Folder.{Folder, IsFolder, greatest, has_number, moved_content}
@@ -190,8 +190,7 @@ module _ (deeds : SuiteDeeds) (past : History) (token : Token) (folder : Folder)
   read-known (Lock lock) (done found_too_large) stands =
       watched-known (Lock lock) found_too_large stands
   read-known name (done found) stands = watched-known name found stands
-  read-known _ (failed effect) stands = held number stands
-  read-known _ (died effect) stands = held number stands
+  read-known name result stands = held number stands
 
   -- a verdict
   told-known : (asked : Token) (result : CallResult Verdict) → KnownAfter (asks asked) result
@@ -230,13 +229,9 @@ module _ (deeds : SuiteDeeds) (past : History) (token : Token) (folder : Folder)
           (Lock number)) → IfSome (option_map before_create stood.listing)
           (IsKnown (made_number (create_step lock one lock_uncalled)) number)
       created (done Done) stands = new (number == lock) refl stands
-      created (done Exists) stands = old None stands
       created (failed happened) stands = new (number == lock) refl stands
-      created (failed nothing) stands = old None stands
-      created (failed (left content)) stands = old None stands
       created (died happened) stands = new (number == lock) refl stands
-      created (died nothing) stands = old None stands
-      created (died (left content)) stands = old None stands
+      created one stands = old None stands
 
   -- a move of the free text to the kept lock
   given-known : (lock : ℕ) (effect : Effect) → stood.own ≡ lock_kept lock →
@@ -287,10 +282,7 @@ module _ (deeds : SuiteDeeds) (past : History) (token : Token) (folder : Folder)
           (held number is.1)
       cases (failed happened) some = held number (other (number == lock) some).1
       cases (died happened) some = held number (other (number == lock) some).1
-      cases (failed nothing) some = held number some
-      cases (died nothing) some = held number some
-      cases (failed (left content)) some = held number some
-      cases (died (left content)) some = held number some
+      cases one some = held number some
 
   -- a call that leaves the lock, the listing and what was made
   same-known : (call : Call) (result : CallResult (Answer call)) →

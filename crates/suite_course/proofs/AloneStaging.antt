@@ -12,7 +12,7 @@ use Rattle.acct_outside.specs.Gives.{GivesResult}
 use Rattle.acct_outside.specs.History.{Event, History, after, own_events}
 use Rattle.acct_outside.specs.Life.{Life, MayCall, ended, faulted, life, life_after_call, life_step, running, runs_in, unbegun}
 use Rattle.suite_rules.specs.Deeds.{SuiteDeeds}
-use Rattle.suite_rules.specs.OwnLock.{OwnLock, lock_uncalled, lock_called, lock_unsure, lock_made, lock_kept, lock_freed}
+use Rattle.suite_rules.specs.OwnLock.{OwnLock, lock_kept, lock_freed}
 use Rattle.suite_rules.specs.Standing.{Standing, standing, standing_step}
 use Rattle.suite_rules.specs.Lawful.{IsNext, KeepsRulesOrNone, Lawful, goes_on}
 use Rattle.suite_session.specs.Causes.{HasFailed}
@@ -26,18 +26,14 @@ use Rattle.suite_course.proofs.StagingSteps.{IsGoneOrAs, StagingAlone, begin-ste
 
 -- a session that runs, or hasn't begun
 abbrev IsActive : Life → Type 0
-IsActive unbegun = Unit {0}
-IsActive running = Unit {0}
-IsActive faulted = Unit {0}
 IsActive ended = ⊥
+IsActive other = Unit {0}
 
 -- one that is so after a call was so before it
 active-before : (call : Call) (result : CallResult (Answer call)) (before : Life) →
     IsActive (life_step call result before) → IsActive before
-active-before call result unbegun active = tt
-active-before call result running active = tt
-active-before call result faulted active = tt
 active-before call result ended active = active
+active-before call result before active = tt
 
 -- a call that failed, and wasn't the answer
 abbrev HasFailedAs : (call : Call) → CallResult (Answer call) → Type 0
@@ -189,17 +185,13 @@ module _ (deeds : SuiteDeeds) (first : Folder) (token : Token) (entry : Folder) 
 
 -- one that runs is so
 runs-active : (lived : Life) → runs_in lived ≡ true → IsActive lived
-runs-active running runs = tt
-runs-active faulted runs = tt
-runs-active unbegun runs = tt
 runs-active ended runs = cc runs
+runs-active lived runs = tt
 
 -- so is one that may answer
 answers-active : (lived : Life) (status : ℕ) → MayCall lived (answers status) → IsActive lived
-answers-active running status may = tt
-answers-active faulted status may = tt
-answers-active unbegun status may = tt
 answers-active ended status may = absurd may
+answers-active lived status may = tt
 
 module _ (deeds : SuiteDeeds) (first : Folder) (token : Token) (old history : History)
     (alone : IsAlone token old history) (lawful : Lawful deeds first history) where
@@ -272,7 +264,4 @@ module _ (deeds : SuiteDeeds) (first : Folder) (token : Token) (old history : Hi
           IsGoneOrAs (after first old) (after first history) name
       by-own (lock_kept number) held = held name staging (moved name)
       by-own (lock_freed number) held = held name staging (moved name)
-      by-own lock_uncalled held = inr (held name staging)
-      by-own lock_called held = inr (held name staging)
-      by-own (lock_unsure number) held = inr (held name staging)
-      by-own (lock_made number) held = inr (held name staging)
+      by-own own held = inr (held name staging)

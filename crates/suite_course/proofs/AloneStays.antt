@@ -12,14 +12,14 @@ use Rattle.acct_outside.specs.declared.Name.TheVariants.{Table, Backup, Staged, 
 use Rattle.acct_outside.specs.Names.{is_staging, same_name}
 use Rattle.acct_outside.specs.Tokens.{Token, held_text}
 use Rattle.acct_outside.specs.Folder.{Folder, moved_content, with_piece}
-use Rattle.acct_outside.specs.Calls.{Call, Answer, CallResult, Effect, begins, creates, writes, appends, renames, removes, done, failed, died, happened, nothing, left, effect_of, changed_by}
+use Rattle.acct_outside.specs.Calls.{Call, Answer, CallResult, Effect, begins, creates, writes, appends, renames, removes, done, happened, nothing, left, effect_of, changed_by}
 use Rattle.acct_outside.specs.History.{Event, History, after}
 use Rattle.acct_outside.specs.Gives.{GivesResult}
 use Rattle.acct_outside.specs.declared.CommitStage.{CommitStage}
 use Rattle.acct_outside.specs.declared.CommitStage.TheVariants.{Before}
 use Rattle.suite_rules.specs.Deeds.{SuiteDeeds}
 use Rattle.suite_rules.specs.Standing.{Standing, commit_step, no_standing, standing, standing_step}
-use Rattle.suite_rules.specs.Rules.{moves_backup, moves_free, Permits, free_begin, free_listing, free_read, free_verdict, create_rule, staging_rule, append_rule, commit_rule, install_rule, clear_rule, move_rule, unlock_rule, answer_rule}
+use Rattle.suite_rules.specs.Rules.{moves_backup, moves_free, Permits, free_begin, create_rule, staging_rule, append_rule, commit_rule, install_rule, clear_rule, move_rule, unlock_rule}
 use Rattle.suite_rules.specs.Lawful.{KeepsRulesOrNone, IsNext, Lawful, goes_on}
 use Rattle.suite_rules.proofs.Names.{else-is, fails-apart}
 use Rattle.suite_rules.proofs.Settles.{uncalled-before}
@@ -55,8 +55,7 @@ commit-called result commit is =
     first : (one : CallResult (Unit {0})) →
         commit_step (renames IntentStage Intent) one Before ≡ Before → ⊥
     first (done answer) same = cc same
-    first (failed effect) same = cc same
-    first (died effect) same = cc same
+    first one same = cc same
 
 -- what a call does to a file of another name
 module _ (token : Token) (folder : Folder) (kept : Name) where
@@ -131,10 +130,6 @@ module _ (deeds : SuiteDeeds) (token : Token) (entry folder : Folder) (stood : S
   intent-step : (call : Call) (result : CallResult (Answer call)) → Permits deeds stood call →
       IntentAlone entry (changed_by token call (effect_of call result) folder)
       (standing_step call result stood)
-  intent-step _ result (free_begin command) = held
-  intent-step _ result free_listing = held
-  intent-step _ result (free_read name) = held
-  intent-step _ result (free_verdict asked) = held
   intent-step _ result (create_rule number rule) = leaves-intent (creates number) result
       (created-same token folder Intent number (effect_of (creates number) result) refl)
   intent-step _ result (staging_rule name piece keeper rule) =
@@ -165,7 +160,7 @@ module _ (deeds : SuiteDeeds) (token : Token) (entry folder : Folder) (stood : S
   intent-step _ result (unlock_rule number rule) = leaves-intent (removes (Lock number)) result
       (removed-same token folder Intent (Lock number) (effect_of (removes (Lock number)) result)
       refl)
-  intent-step _ result (answer_rule status rule) = held
+  intent-step _ result other = held
 
 -- ---- Call by call
 

@@ -12,7 +12,7 @@ use Rattle.acct_outside.specs.declared.Name.{Name}
 use Rattle.acct_outside.specs.declared.Name.TheVariants.{FreeStage, Lock}
 use Rattle.acct_outside.specs.declared.Verdict.{Verdict}
 use Rattle.acct_outside.specs.declared.Verdict.TheVariants.{Alive, Dead}
-use Rattle.acct_outside.specs.declared.Created.TheVariants.{Done, Exists}
+use Rattle.acct_outside.specs.declared.Created.TheVariants.{Done}
 use Rattle.acct_outside.specs.Names.{name_limit}
 use Rattle.acct_outside.specs.Tokens.{Token}
 use Rattle.acct_outside.specs.Folder.{Folder, greatest, top}
@@ -20,7 +20,7 @@ use Rattle.acct_outside.specs.Calls.{Call, Answer, CallResult, Effect, Found, li
 use Rattle.acct_outside.specs.History.{History}
 use Rattle.acct_outside.specs.Gives.{GivesResult}
 use Rattle.suite_rules.specs.Deeds.{SuiteDeeds}
-use Rattle.suite_rules.specs.OwnLock.{OwnLock, lock_uncalled, lock_called, lock_unsure, lock_made, lock_kept, lock_freed, made_number, has_called_create, confirm_step, create_step, free_step}
+use Rattle.suite_rules.specs.OwnLock.{OwnLock, lock_uncalled, lock_made, lock_kept, lock_freed, made_number, has_called_create, confirm_step, create_step, free_step}
 use Rattle.suite_rules.specs.Knowledge.{is_watched}
 use Rattle.suite_rules.specs.Listing.{Listing, new_listing, with_text, text_step, verdict_step, watch_step, watched_with, before_create}
 use Rattle.suite_rules.specs.Standing.{Standing, standing_step}
@@ -70,10 +70,7 @@ module _ (entry now : Folder) (listing : Option Listing) where
       (held.0, record { numbers = ap (λ (one : Folder). one.locks) held.0; texts = tt })
   list-alone (lock_made number) held =
       rw ((Decides-eqb (top now) number).1 held.0) tt
-  list-alone lock_called held = tt
-  list-alone (lock_unsure number) held = tt
-  list-alone (lock_kept number) held = tt
-  list-alone (lock_freed number) held = tt
+  list-alone own held = tt
 
   -- a note that leaves what is asked of a listing
   note-alone : (note : Listing → Listing) →
@@ -90,10 +87,7 @@ module _ (entry now : Folder) (listing : Option Listing) where
     noted (λ one. one.follows_create ≡ false) (λ one. one.follows_create ≡ false) note
         second listing held.1,
   )
-  note-alone note first second lock_called held = tt
-  note-alone note first second (lock_unsure number) held = tt
-  note-alone note first second (lock_kept number) held = tt
-  note-alone note first second (lock_freed number) held = tt
+  note-alone note first second own held = tt
 
   -- a removal of the own lock, once it was outrun: that doesn't happen
   outrun-alone : (later : Folder) (listed_then : Option Listing) (own : OwnLock) (number : ℕ) →
@@ -105,10 +99,7 @@ module _ (entry now : Folder) (listing : Option Listing) where
   outrun-alone later listed_then (lock_made own) number made one listed follows held =
       absurd (true≢false (sym follows
       ∙ there (λ other. other.follows_create ≡ false) listing one listed held.1))
-  outrun-alone later listed_then lock_called number made one listed follows held = tt
-  outrun-alone later listed_then (lock_unsure own) number made one listed follows held = tt
-  outrun-alone later listed_then (lock_kept own) number made one listed follows held = tt
-  outrun-alone later listed_then (lock_freed own) number made one listed follows held = tt
+  outrun-alone later listed_then own number made one listed follows held = tt
 
 -- the text of the greatest lock is noted, and of no other
 text-noted : (entry : Folder) (number : ℕ) (text : Bytes) → entry.file (Lock number) ≡ Some text →
@@ -205,8 +196,7 @@ module _ (deeds : SuiteDeeds) (history : History) (token : Token) (entry folder 
     read-locks (Lock number) (done found_too_large) gives =
         watch-locks (Lock number) found_too_large
     read-locks name (done found) gives = watch-locks name found
-    read-locks _ (failed effect) gives = held
-    read-locks _ (died effect) gives = held
+    read-locks name result gives = held
 
     -- a listing
     list-locks : (result : CallResult (Answer lists)) →
@@ -253,13 +243,9 @@ module _ (deeds : SuiteDeeds) (history : History) (token : Token) (entry folder 
           let with_is = greatest-with number folder.locks in omega (arith, with_is, above),
           none-follows stood.listing,
         )
-        created (done Exists) = tt
         created (failed happened) = tt
-        created (failed nothing) = tt
-        created (failed (left content)) = tt
         created (died happened) = tt
-        created (died nothing) = tt
-        created (died (left content)) = tt
+        created one = tt
 
     -- a keeper's move to its lock
     free-locks : (number : ℕ) (result : CallResult (Unit {0})) (keeper : KeeperRule stood) →

@@ -76,9 +76,7 @@ module _ (asked : Question) (entry between now : Moment) (put : Result (Unit {0}
       (calls : List Entry) × MakesCalls calls entry.journal now.journal
   ends-unbegun tool given (Unbegun same answer) asks turns =
       no-more entry between now _ asks turns.2.journal asks.within
-  ends-unbegun tool given (Waiting question) asks turns = absurd turns
-  ends-unbegun tool given (Begun runner next) asks turns = absurd turns
-  ends-unbegun tool given (Over runner answer) asks turns = absurd turns
+  ends-unbegun tool given final asks turns = absurd turns
 
   ends-as : (phase : Phase) → Comes asked entry between phase → IsSome (answer_of phase) →
       SessionTurns between now (phase_after put phase) last →

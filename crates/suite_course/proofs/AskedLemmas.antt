@@ -51,8 +51,7 @@ shown-on entry calls lower shows = record {
 last-head : (call : Call) (reply : Reply) (calls older : List Entry) →
     last_lower (makes call reply ∷ older) ≡ last_lower (makes call reply ∷ calls)
 last-head call was_refused calls older = refl
-last-head call (showed numbers) calls older = refl
-last-head call was_done calls older = refl
+last-head call reply calls older = refl
 
 -- the last call shows these
 last-shown : (call : Call) (reply : Reply) (calls older journal : List Entry) (lower : ℕ) →
@@ -272,9 +271,4 @@ asked-turn entry between now (Begun runner state) (Over same answer) asked none 
     let wrong : None ≡ Some answer = sym none ∙ has in absurd (cc)
 asked-turn entry between now (Over runner answer) new asked none turns = absurd (cc)
 asked-turn entry between now (Unbegun tool answer) new asked none turns = absurd (cc)
-asked-turn entry between now (Waiting question) (Waiting other) asked none turns = absurd turns
-asked-turn entry between now (Waiting question) (Over runner answer) asked none turns =
-    absurd turns
-asked-turn entry between now (Begun runner state) (Waiting other) asked none turns = absurd turns
-asked-turn entry between now (Begun runner state) (Unbegun tool answer) asked none turns =
-    absurd turns
+asked-turn entry between now old new asked none turns = absurd turns

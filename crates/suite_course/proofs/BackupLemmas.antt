@@ -43,17 +43,13 @@ begun-stays call result before begun = cases before begun
 begins-first : (before : Life) (command : Command) → MayCall before (begins command) →
     before ≡ unbegun
 begins-first unbegun command may = refl
-begins-first running command may = absurd may
-begins-first faulted command may = absurd may
-begins-first ended command may = absurd may
+begins-first before command may = absurd may
 
 -- only one that runs without a failed call moves files
 pub moves-active : (before : Life) (from to : Name) → MayCall before (renames from to) →
     before ≡ running
 moves-active running from to may = refl
-moves-active unbegun from to may = absurd may
-moves-active faulted from to may = absurd may
-moves-active ended from to may = absurd may
+moves-active before from to may = absurd may
 
 -- one that has begun has begun after an event of it, and is asked nothing else
 pub begun-asked : (deeds : SuiteDeeds) (history : History) (token : Token) (call : Call)

@@ -34,7 +34,7 @@ use Rattle.suite_rules.specs.Lawful.{Lawful}
 use Rattle.suite_rules.specs.Steps.{LawfulOthers}
 use Rattle.suite_answers.specs.declared.cause.Which.TheVariants.{Input, File}
 use Rattle.suite_answers.specs.declared.cause.Cause.{Cause}
-use Rattle.suite_answers.specs.declared.cause.Cause.TheVariants.{Changed, Same, Refused, RefusedLine, Syntax, BatchSyntax, Held, Gone, Raced, Outrun, LockDamaged, Exhausted, IntentDamaged, TooLarge, NoTable, BadSetting, DiskFault, InputFault, OutputFault, ClockFault, Memory}
+use Rattle.suite_answers.specs.declared.cause.Cause.TheVariants.{Syntax, BatchSyntax, Held, Gone, Raced, Outrun, LockDamaged, Exhausted, IntentDamaged, TooLarge, DiskFault, InputFault, OutputFault, ClockFault, Memory}
 use Rattle.suite_answers.specs.declared.cause.Outcome.{Outcome}
 use Rattle.suite_answers.specs.declared.answer.Answer.{Answer}
 use Rattle.suite_answers.specs.Answers.{told}
@@ -68,12 +68,6 @@ module _ (deeds : SuiteDeeds) (asked : Question) (first : Folder)
       (standing token new).commit ≡ stage_of cause → Says asked given cause →
       (IsDiskFault cause → ⊥) → IsShownAt deeds asked first new token given cause →
       AnswersOnOld deeds asked first old new token given
-  answers-as Changed is commits says inside shown = inr (shown.alone old alone)
-  answers-as Same is commits says inside shown = inr (shown.alone old alone)
-  answers-as (Refused refusal) is commits says inside shown = inr (shown.alone old alone)
-  answers-as (RefusedLine line refusal) is commits says inside shown = inr (shown.alone old alone)
-  answers-as (NoTable table) is commits says inside shown = inr (shown.alone old alone)
-  answers-as (BadSetting line) is commits says inside shown = inr (shown.alone old alone)
   answers-as (TooLarge (File (Table table))) is commits says inside shown =
       inr (shown.alone old alone)
   answers-as (TooLarge (File Defs)) is commits says inside shown = inr (shown.alone old alone)
@@ -101,6 +95,7 @@ module _ (deeds : SuiteDeeds) (asked : Question) (first : Folder)
   answers-as InputFault is commits says inside shown = absurd says
   answers-as (OutputFault stage) is commits says inside shown = absurd says
   answers-as ClockFault is commits says inside shown = absurd says
+  answers-as cause is commits says inside shown = inr (shown.alone old alone)
 
 -- who answered with the last event, and began since a moment, is who was alone since then
 one-alone : (asked : Question) (outcome : Outcome) (token other : Token) (old new : History) →
@@ -217,8 +212,7 @@ where-both admits T P Q follows (Some was) (Some past) told one = (
   λ deeds ours others lawful. follows deeds ours was.first was.history past.history others lawful
       told.1 (one.1 deeds ours others lawful),
 )
-where-both admits T P Q follows None (Some past) told one = absurd one
-where-both admits T P Q follows (Some was) None told one = absurd one
+where-both admits T P Q follows was now told one = absurd one
 
 -- the first claim
 pub ran-complete :

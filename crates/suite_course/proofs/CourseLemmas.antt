@@ -147,8 +147,7 @@ told-wider wide narrow narrows command fault (Some was) (Some past) tells = (
   tells.0,
   begin-wider wide narrow narrows command fault was.first was.history past.history tells.1,
 )
-told-wider wide narrow narrows command fault None (Some past) tells = absurd tells
-told-wider wide narrow narrows command fault (Some was) None tells = absurd tells
+told-wider wide narrow narrows command fault was told tells = absurd tells
 
 -- one since a moment is one since an entry at which as much was told
 pub unbegun-from : (asked : Question) (entry between now : Moment) (answer : Answer) →
@@ -243,21 +242,12 @@ comes-turn asked entry between now (Begun runner state) (Over same answer) comes
     let wrong : None ≡ Some answer = sym none ∙ has in absurd (cc)
 comes-turn asked entry between now (Over runner answer) new comes none turns = absurd (cc)
 comes-turn asked entry between now (Unbegun tool answer) new comes none turns = absurd (cc)
-comes-turn asked entry between now (Waiting question) (Waiting other) comes none turns =
-    absurd turns
-comes-turn asked entry between now (Waiting question) (Over runner answer) comes none turns =
-    absurd turns
-comes-turn asked entry between now (Begun runner state) (Waiting other) comes none turns =
-    absurd turns
-comes-turn asked entry between now (Begun runner state) (Unbegun tool answer) comes none turns =
-    absurd turns
+comes-turn asked entry between now old new comes none turns = absurd turns
 
 -- a session that hasn't begun was asked something
 pub waiting-is : (phase : Phase) → IsWaiting phase → (asked : Question) × (phase ≡ Waiting asked)
 waiting-is (Waiting asked) waits = (asked, refl)
-waiting-is (Begun runner state) waits = absurd waits
-waiting-is (Over runner answer) waits = absurd waits
-waiting-is (Unbegun tool answer) waits = absurd waits
+waiting-is phase waits = absurd waits
 
 -- a session on its way belongs to the folder
 pub comes-belongs : (asked : Question) (entry now : Moment) (phase : Phase) →

@@ -202,9 +202,7 @@ module _ (asked : Question) (entry between now : Moment) (was holds : Streams) (
                 (stays-turns between now [] {S = Unit {0}} {T = ⊥} turns.2.told turns.2.narrows
                 (omega (arith, turns.2.faults)) tt (λ none. none)));
           }
-      by-last (Waiting question) turns ends = absurd turns
-      by-last (Begun same next) turns ends = absurd turns
-      by-last (Over runner final) turns ends = absurd turns
+      by-last last turns ends = absurd turns
 
   -- by the session's phase
   finishes-as : (phase : Phase) → Comes asked entry between phase → IsSome (answer_of phase) →

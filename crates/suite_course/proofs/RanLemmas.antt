@@ -72,8 +72,7 @@ module _ (asked : Question) (entry now : Moment) where
     λ deeds ours others lawful. follows deeds was.first was.history past.history
         ((stays deeds ours).1 others lawful) extends.1.0 extends.1.1,
   )
-  where-lawful P follows None (Some past) extends stays = absurd extends
-  where-lawful P follows (Some was) None extends stays = absurd extends
+  where-lawful P follows was told extends stays = absurd extends
 
   -- a lawful history settles after each part of it
   settles : (deeds : SuiteDeeds) (first : Folder) (new : History) → Lawful deeds first new →
@@ -181,8 +180,7 @@ module _ (asked : Question) (entry now : Moment) where
           grew.0,
           inr (record { fault = unbegun.fault; begin = begin.1; tells = unbegun.tells }),
         )
-    runs-or-not by made None (Some past) was_is told_is stands grew stays = absurd grew
-    runs-or-not by made (Some was) None was_is told_is stands grew stays = absurd grew
+    runs-or-not by made was told was_is told_is begun grew stays = absurd grew
 
 -- the claim
 pub finished-ran : (asked : Question) (entry now : Moment) (was holds : Streams)

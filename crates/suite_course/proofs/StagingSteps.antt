@@ -15,9 +15,9 @@ use Rattle.acct_outside.specs.Gives.{GivesResult}
 use Rattle.acct_outside.specs.History.{History}
 use Rattle.suite_rules.specs.Deeds.{SuiteDeeds}
 use Rattle.suite_rules.specs.Knowledge.{Stages}
-use Rattle.suite_rules.specs.OwnLock.{OwnLock, lock_uncalled, lock_called, lock_unsure, lock_made, lock_kept, lock_freed, confirm_step, own_step}
+use Rattle.suite_rules.specs.OwnLock.{OwnLock, lock_uncalled, lock_made, lock_kept, lock_freed, confirm_step, own_step}
 use Rattle.suite_rules.specs.Standing.{Standing, keeper_part, nothing_staged, staged_step, staged_with}
-use Rattle.suite_rules.specs.Rules.{moves_backup, moves_free, KeeperRule, Permits, free_begin, free_listing, free_read, free_verdict, create_rule, staging_rule, append_rule, commit_rule, install_rule, clear_rule, move_rule, unlock_rule, answer_rule}
+use Rattle.suite_rules.specs.Rules.{moves_backup, moves_free, KeeperRule, Permits, free_listing, free_read, create_rule, staging_rule, append_rule, commit_rule, install_rule, clear_rule, move_rule, unlock_rule}
 use Rattle.suite_rules.proofs.Names.{passes-apart}
 use Rattle.suite_course.proofs.AloneStays.{appended-same, created-same, removed-same, written-same}
 
@@ -58,21 +58,15 @@ module _ (entry before now : Folder) (same : IsUntouched before now) where
   -- so a call that stages nothing leaves all, where the own lock stays
   stays-alone : (staged : Stages) (own : OwnLock) → StagingAlone entry before staged own →
       StagingAlone entry now (keeper_part own own nothing_staged staged staged) own
-  stays-alone staged lock_uncalled held = same-untouched held
-  stays-alone staged lock_called held = same-untouched held
-  stays-alone staged (lock_unsure number) held = same-untouched held
-  stays-alone staged (lock_made number) held = same-untouched held
   stays-alone staged (lock_kept number) held = same-moved staged held
   stays-alone staged (lock_freed number) held = same-moved staged held
+  stays-alone staged own held = same-untouched held
 
 -- a listing may make a keeper, who has staged nothing
 list-alone : (entry now : Folder) (staged : Stages) (top : ℕ) (own : OwnLock) →
     StagingAlone entry now staged own →
     StagingAlone entry now
     (keeper_part own (confirm_step top own) nothing_staged staged staged) (confirm_step top own)
-list-alone entry now staged top lock_uncalled held = held
-list-alone entry now staged top lock_called held = held
-list-alone entry now staged top (lock_unsure number) held = held
 list-alone entry now staged top (lock_made number) held = cases (top == number)
   where
     cases : (same : Bool) → StagingAlone entry now
@@ -81,8 +75,7 @@ list-alone entry now staged top (lock_made number) held = cases (top == number)
         (if same then lock_kept number else lock_made number)
     cases true = λ name staging none. inr (held name staging)
     cases false = held
-list-alone entry now staged top (lock_kept number) held = held
-list-alone entry now staged top (lock_freed number) held = held
+list-alone entry now staged top own held = held
 
 -- a piece behind staged bytes leaves some
 piece-some : (piece : Bytes) (content : Option Bytes) → IsSome content →
@@ -198,14 +191,10 @@ module _ (deeds : SuiteDeeds) (token : Token) (entry folder : Folder) (stood : S
     pub done-step : (history : History) (call : Call) (answer : Answer call) →
         Permits deeds stood call → GivesResult folder history token call (done answer) →
         StagingAfter call (done answer) stood.own
-    done-step history _ answer (free_begin command) gives =
-        stays-alone entry folder folder (λ name staging. refl) stood.staged stood.own held
     done-step history _ answer free_listing gives =
         list-alone entry folder stood.staged (greatest answer) stood.own held
     done-step history _ answer (free_read name) gives =
         stays-alone entry folder folder (λ one staging. refl) stood.staged stood.own held
-    done-step history _ answer (free_verdict asked) gives =
-        stays-alone entry folder folder (λ name staging. refl) stood.staged stood.own held
     done-step history _ answer (create_rule number rule) gives =
         create-alone number answer rule.first
     done-step history _ answer (staging_rule name piece keeper rule) gives =
@@ -246,7 +235,7 @@ module _ (deeds : SuiteDeeds) (token : Token) (entry folder : Folder) (stood : S
         (free-alone keeper gives (keeper.number == keeper.number))
     done-step history _ answer (unlock_rule number rule) gives =
         remove-alone (Lock number) answer refl
-    done-step history _ answer (answer_rule status rule) gives =
+    done-step history _ answer other gives =
         stays-alone entry folder folder (λ name staging. refl) stood.staged stood.own held
 
     -- a begin, whatever became of it

@@ -6,7 +6,7 @@ use Rattle.acct_outside.specs.declared.streams.SinkFault.{SinkFault}
 use Rattle.acct_outside.specs.declared.streams.SinkFault.TheVariants.{Failed}
 use Rattle.acct_outside.specs.declared.CommitStage.{CommitStage}
 use Rattle.account_model.specs.declared.tool.Tool.{Tool}
-use Rattle.account_model.specs.declared.tool.Tool.TheVariants.{Useradd, Usermod, Userdel, Groupadd, Groupmod, Groupdel, Gpasswd, Chage, Chpasswd, Pwck, Grpck, Getsubids, Batch}
+use Rattle.account_model.specs.declared.tool.Tool.TheVariants.{Useradd}
 use Rattle.suite_answers.specs.declared.answer.Answer.{Answer}
 use Rattle.suite_answers.specs.Reasons.{memory_message}
 use Rattle.suite_course.specs.Streams.{FailsAt, Serves, Streams, text_of}
@@ -16,18 +16,7 @@ pub memory_message_some : (tool : Option Tool) (stage : CommitStage) →
     memory_message tool stage ≡ [] → ⊥
 memory_message_some None stage is = absurd (cc is)
 memory_message_some (Some Useradd) stage is = absurd (cc is)
-memory_message_some (Some Usermod) stage is = absurd (cc is)
-memory_message_some (Some Userdel) stage is = absurd (cc is)
-memory_message_some (Some Groupadd) stage is = absurd (cc is)
-memory_message_some (Some Groupmod) stage is = absurd (cc is)
-memory_message_some (Some Groupdel) stage is = absurd (cc is)
-memory_message_some (Some Gpasswd) stage is = absurd (cc is)
-memory_message_some (Some Chage) stage is = absurd (cc is)
-memory_message_some (Some Chpasswd) stage is = absurd (cc is)
-memory_message_some (Some Pwck) stage is = absurd (cc is)
-memory_message_some (Some Grpck) stage is = absurd (cc is)
-memory_message_some (Some Getsubids) stage is = absurd (cc is)
-memory_message_some (Some Batch) stage is = absurd (cc is)
+memory_message_some tool stage is = absurd (cc is)
 
 module _ (tool : Option Tool) (answer : Answer) (before now : Streams) where
   -- where the streams failed, one of them did that was to take a text

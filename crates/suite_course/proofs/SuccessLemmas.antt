@@ -3,7 +3,7 @@
 use Rattle.std.proofs.Common.{◌≡◌, refl, sym, ◌∙◌, Option}
 use Rattle.acct_text.specs.declared.files.Files.{Files}
 use Rattle.acct_text.specs.Bytes.{Bytes}
-use Rattle.account_model.specs.Answer.{TableTooLarge, SettingsTooLarge, TableAbsent, BadSettingAt, AnswerCause, Unusable, Refused, RefusedLine, Same, Changed}
+use Rattle.account_model.specs.Answer.{TableTooLarge, AnswerCause, Unusable, Changed}
 use Rattle.suite_answers.specs.declared.cause.Cause.TheVariants.{Changed as IsChanged}
 use Rattle.suite_answers.specs.declared.answer.Answer.{Answer}
 use Rattle.suite_answers.proofs.ChangeLemmas.{changes-succeed}
@@ -17,12 +17,7 @@ module _ (asked : Question) (files : Files) (defs : Option Bytes) where
   by-cause (Changed new) is same =
       changes-succeed asked.request asked.command.input asked.command.day files defs new is
   by-cause (Unusable (TableTooLarge table)) is same = absurd (cc)
-  by-cause (Unusable SettingsTooLarge) is same = absurd (cc)
-  by-cause (Unusable (TableAbsent table)) is same = absurd (cc)
-  by-cause (Unusable (BadSettingAt line)) is same = absurd (cc)
-  by-cause (Refused refusal) is same = absurd (cc)
-  by-cause (RefusedLine line refusal) is same = absurd (cc)
-  by-cause Same is same = absurd (cc)
+  by-cause cause is same = absurd (cc)
 
   -- the claim
   pub changed-succeeds : (answer : Answer) → IsAnswerOn asked files defs answer →

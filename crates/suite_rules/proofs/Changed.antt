@@ -5,7 +5,7 @@ use Rattle.std.specs.Option.{option_or}
 use Rattle.std.proofs.lemmas.Slice.Eq.{bytes_eq-Decides}
 use Rattle.std.proofs.lemmas.Bool.Decides.{nat_tests}
 use Rattle.acct_text.specs.declared.Tab.{Tab}
-use Rattle.acct_text.specs.declared.Tab.TheVariants.{Passwd, Shadow, Group, Gshadow, Subuid, Subgid}
+use Rattle.acct_text.specs.declared.Tab.TheVariants.{Passwd}
 use Rattle.acct_text.specs.Bytes.{Bytes}
 use Rattle.acct_text.specs.Tables.{all_tables, same_table}
 use Rattle.acct_text.specs.Contents.{Contents, same_content, IsChange}
@@ -13,15 +13,15 @@ use Rattle.acct_outside.specs.Names.{greatest_lock}
 use Rattle.intent_file.specs.Intent.{intent_of, intent_text, ReadsIntent, listed_in}
 use Rattle.intent_file.proofs.ChangedTablesLemmas.{changed-allowed, content-is}
 use Rattle.acct_text.specs.ChangedTables.{with_new_table, changed_among, changed_tables}
-use Rattle.suite_rules.proofs.Names.{table-is, table-same, table-turned}
+use Rattle.acct_outside.proofs.NameLemmas.{table-is, table-same}
+use Rattle.suite_rules.proofs.Names.{table-turned}
 
 -- different by the test, so different
 pub content-differs : (old new : Option Bytes) → same_content old new ≡ false → new ≢ old
 content-differs None None is same = true≢false is
 content-differs (Some old) (Some new) is same =
     true≢false (sym ((bytes_eq-Decides old new).1 (cc)) ∙ is)
-content-differs None (Some new) is same = cc
-content-differs (Some old) None is same = cc
+content-differs old new is same = cc
 
 -- the table is one of these
 abbrev has_table : Tab → List Tab → Bool
@@ -31,11 +31,7 @@ has_table asked (table ∷ tables) = same_table asked table || has_table asked t
 -- the fixed order has all tables
 has-all : (table : Tab) → has_table table all_tables ≡ true
 has-all Passwd = refl
-has-all Shadow = refl
-has-all Group = refl
-has-all Gshadow = refl
-has-all Subuid = refl
-has-all Subgid = refl
+has-all table = refl
 
 module _ (old new : Contents) (stands : (table : Tab) →
     is_some (new table) ≡ is_some (old table)) where

@@ -170,21 +170,13 @@ seen_all = seen_of (standing m1 staged_intent).knows
 -- it has seen each table
 each-table-seen : (table : Tab) → seen_all.file (Table table) ≡ Some (tables first table)
 each-table-seen Passwd = refl
-each-table-seen Shadow = refl
-each-table-seen Group = refl
-each-table-seen Gshadow = refl
-each-table-seen Subuid = refl
-each-table-seen Subgid = refl
+each-table-seen table = refl
 
 -- the table that differs is backed up
 staff-backed : (table : Tab) → staff_files table ≢ tables first table →
     seen_all.backed table ≡ true
-staff-backed Passwd differs = absurd (differs refl)
-staff-backed Shadow differs = absurd (differs refl)
 staff-backed Group differs = refl
-staff-backed Gshadow differs = absurd (differs refl)
-staff-backed Subuid differs = absurd (differs refl)
-staff-backed Subgid differs = absurd (differs refl)
+staff-backed table differs = absurd (differs refl)
 
 -- it has seen all
 abbrev staff_seen : HasSeen (standing m1 staged_intent).command seen_all

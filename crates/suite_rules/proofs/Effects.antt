@@ -8,7 +8,7 @@ use Rattle.acct_outside.specs.declared.Created.TheVariants.{Done, Exists}
 use Rattle.acct_outside.specs.Names.{is_staging, same_name}
 use Rattle.acct_outside.specs.Tokens.{Token}
 use Rattle.acct_outside.specs.Folder.{Folder, with_number, without_number, with_file, with_piece, moved, moved_content}
-use Rattle.acct_outside.specs.Calls.{Call, Answer, CallResult, Effect, Found, found_within, creates, writes, appends, renames, removes, done, failed, died, happened, nothing, left, found_absent, found_bytes, found_too_large, effect_of, changed_by}
+use Rattle.acct_outside.specs.Calls.{Call, Answer, CallResult, Effect, Found, found_within, creates, writes, appends, renames, removes, done, happened, nothing, left, found_absent, found_bytes, found_too_large, effect_of, changed_by}
 use Rattle.acct_outside.specs.History.{History}
 use Rattle.acct_outside.specs.Gives.{GivesEffect, GivesResult}
 use Rattle.suite_rules.specs.Knowledge.{whole_content}
@@ -20,17 +20,13 @@ pub gives-effect : (folder : Folder) (history : History) (token : Token) (call :
     GivesEffect folder call (effect_of call result)
 gives-effect folder history token (creates number) (done Done) gives = gives
 gives-effect folder history token (creates number) (done Exists) gives = tt
-gives-effect folder history token (creates number) (failed effect) gives = gives
-gives-effect folder history token (creates number) (died effect) gives = gives
+gives-effect folder history token (creates number) result gives = gives
 gives-effect folder history token (appends name piece) (done answer) gives = gives
-gives-effect folder history token (appends name piece) (failed effect) gives = gives
-gives-effect folder history token (appends name piece) (died effect) gives = gives
+gives-effect folder history token (appends name piece) result gives = gives
 gives-effect folder history token (renames from to) (done answer) gives = gives
-gives-effect folder history token (renames from to) (failed effect) gives = gives
-gives-effect folder history token (renames from to) (died effect) gives = gives
+gives-effect folder history token (renames from to) result gives = gives
 gives-effect folder history token (removes name) (done answer) gives = tt
-gives-effect folder history token (removes name) (failed effect) gives = gives
-gives-effect folder history token (removes name) (died effect) gives = gives
+gives-effect folder history token (removes name) result gives = gives
 gives-effect folder history token _ result gives = tt
 
 -- the same locks stand with the same texts

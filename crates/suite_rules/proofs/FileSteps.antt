@@ -12,17 +12,18 @@ use Rattle.acct_outside.specs.Tokens.{Token, held_text}
 use Rattle.acct_outside.specs.Folder.{Folder}
 use Rattle.acct_outside.specs.Calls.{Call, Answer, Effect, begins, creates, writes, appends, renames, removes, answers, done, happened, nothing, left, effect_of, changed_by}
 use Rattle.acct_outside.specs.History.{History}
-use Rattle.acct_outside.specs.Life.{Life, unbegun, running, faulted, ended, MayCall}
+use Rattle.acct_outside.specs.Life.{Life, unbegun, running, faulted, MayCall}
 use Rattle.acct_outside.specs.Gives.{GivesEffect, GivesResult}
 use Rattle.suite_rules.specs.Deeds.{SuiteDeeds}
 use Rattle.suite_rules.specs.OwnLock.{OwnLock, is_keeper, made_number}
 use Rattle.suite_rules.specs.Knowledge.{Knowledge, knows_nothing, knows_step}
 use Rattle.suite_rules.specs.Standing.{Standing, nothing_staged, staged_step, keeper_part}
-use Rattle.suite_rules.specs.Rules.{KeeperRule, CommitRule, InstallRule, ClearRule, MayBackUp, moves_backup, moves_free, Permits, free_begin, free_listing, free_read, free_verdict, create_rule, staging_rule, append_rule, commit_rule, install_rule, clear_rule, move_rule, unlock_rule, answer_rule, KeepsRules}
+use Rattle.suite_rules.specs.Rules.{KeeperRule, CommitRule, InstallRule, ClearRule, MayBackUp, moves_backup, moves_free, Permits, free_read, create_rule, staging_rule, append_rule, commit_rule, install_rule, clear_rule, move_rule, unlock_rule, KeepsRules}
 use Rattle.suite_rules.specs.Committed.{Commitment, commits, commitment_of}
 use Rattle.suite_rules.specs.Invariant.{KeeperView}
 use Rattle.suite_rules.proofs.Numbers.{number-same}
-use Rattle.suite_rules.proofs.Names.{is_lock, table-same, else-is, fails-apart}
+use Rattle.acct_outside.proofs.NameLemmas.{table-same}
+use Rattle.suite_rules.proofs.Names.{is_lock, else-is, fails-apart}
 use Rattle.suite_rules.proofs.Effects.{SameFiles, SameBut, FileMoved, files-same, lock-files, write-others, append-others, file-moved}
 use Rattle.suite_rules.proofs.ViewSteps.{view-same, view-read, view-write, view-append, view-commit, view-install, view-backup, view-clear, view-free}
 
@@ -60,10 +61,8 @@ pub active : (life : Life) (call : Call) → is_between call ≡ true → MayCal
     life ≡ running
 active running call is may = refl
 active unbegun (begins command) is may = absurd (cc)
-active unbegun _ is may = absurd may
 active faulted (answers status) is may = absurd (cc)
-active faulted _ is may = absurd may
-active ended _ is may = absurd may
+active life _ is may = absurd may
 
 module _ (deeds : SuiteDeeds) (token : Token) (folder : Folder) (life : Life)
     (standing : Standing) where
@@ -145,10 +144,6 @@ module _ (deeds : SuiteDeeds) (token : Token) (folder : Folder) (life : Life)
     where
       cases : (call : Call) → Permits deeds standing call → MayCall life call →
           GivesEffect folder call effect → EffectOf call effect
-      cases _ (free_begin command) may gives = files_stay (files-same folder)
-      cases _ free_listing may gives = files_stay (files-same folder)
-      cases _ (free_read name) may gives = files_stay (files-same folder)
-      cases _ (free_verdict asked) may gives = files_stay (files-same folder)
       cases _ (create_rule number rule) may gives = files_stay (create-effect number effect)
       cases _ (staging_rule name piece keeper rule) may gives =
           file_written name rule.staging keeper (active life (writes name piece) refl may)
@@ -170,7 +165,7 @@ module _ (deeds : SuiteDeeds) (token : Token) (folder : Folder) (life : Life)
           free-effect keeper.number effect keeper
           (active life (renames FreeStage (Lock keeper.number)) refl may) gives
       cases _ (unlock_rule number rule) may gives = files_stay (lock-effect number effect)
-      cases _ (answer_rule status rule) may gives = files_stay (files-same folder)
+      cases _ other may gives = files_stay (files-same folder)
 
 module _ (deeds : SuiteDeeds) (history : History) (token : Token) (folder : Folder)
     (standing : Standing) where
@@ -193,11 +188,8 @@ module _ (deeds : SuiteDeeds) (history : History) (token : Token) (folder : Fold
   pub view-step : (call : Call) (answer : Answer call) → Permits deeds standing call →
       GivesResult folder history token call (done answer) →
       KeeperView folder standing.knows standing.staged → ViewAfter call answer
-  view-step _ answer (free_begin command) gives view = view
-  view-step _ answer free_listing gives view = view
   view-step _ answer (free_read name) gives view =
       view-read folder standing.staged name answer standing.knows gives view
-  view-step _ answer (free_verdict asked) gives view = view
   view-step _ answer (create_rule number rule) gives view = create-view number answer view
   view-step _ answer (staging_rule name piece keeper rule) gives view =
       rw rule.staging (view-write deeds folder standing token view name piece rule.staging)
@@ -215,7 +207,7 @@ module _ (deeds : SuiteDeeds) (history : History) (token : Token) (folder : Fold
       view-free deeds folder standing token view keeper.number gives (number-same keeper.number)
   view-step _ answer (unlock_rule number rule) gives view =
       view-same folder _ (lock-files folder number None) standing.knows standing.staged view
-  view-step _ answer (answer_rule status rule) gives view = view
+  view-step _ answer other gives view = view
 
 -- the view of a session that is keeper after an event: as it begins where the session becomes keeper,
 -- and else what the event made of it

@@ -10,7 +10,7 @@ use Rattle.acct_text.specs.declared.Tab.{Tab}
 use Rattle.acct_text.specs.Bytes.{Bytes}
 use Rattle.acct_text.specs.Tables.{table_place, same_table}
 use Rattle.intent_file.specs.Intent.{NewTable, is_in_order, listed_in}
-use Rattle.suite_rules.proofs.Names.{table-is, table-same}
+use Rattle.acct_outside.proofs.NameLemmas.{table-is, table-same}
 
 -- the first of two tables comes earlier in the fixed order than the second
 comes-earlier : (first second : NewTable) (tables : List NewTable) →

@@ -80,11 +80,8 @@ module _ (top : ℕ) where
           let equal : made ≡ number = cc in
           inr (ap (λ (lock : ℕ). lock_made lock) equal, number-is top made same ∙ equal)
       cases false differs is = absurd (cc)
-  confirm-kept lock_uncalled number is = absurd (cc)
-  confirm-kept lock_called number is = absurd (cc)
-  confirm-kept (lock_unsure made) number is = absurd (cc)
   confirm-kept (lock_kept made) number is = inl is
-  confirm-kept (lock_freed made) number is = absurd (cc)
+  confirm-kept own number is = absurd (cc)
 
   -- a session that keeps or kept a number after a listing did so before, or became keeper by it
   confirm-number : (own : OwnLock) (number : ℕ) →

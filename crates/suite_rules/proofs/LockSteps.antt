@@ -5,7 +5,7 @@ use Rattle.acct_text.specs.Bytes.{Bytes}
 use Rattle.acct_outside.specs.declared.Name.{Name}
 use Rattle.acct_outside.specs.declared.Name.TheVariants.{Table, Backup, Staged, Intent, IntentStage, BackupStage, FreeStage, Lock}
 use Rattle.acct_outside.specs.declared.Verdict.{Verdict}
-use Rattle.acct_outside.specs.declared.Created.TheVariants.{Done, Exists}
+use Rattle.acct_outside.specs.declared.Created.TheVariants.{Done}
 use Rattle.acct_outside.specs.Names.{name_limit}
 use Rattle.acct_outside.specs.Tokens.{Token, held_text}
 use Rattle.acct_outside.specs.Folder.{Folder, greatest, top}
@@ -94,8 +94,7 @@ module _ (deeds : SuiteDeeds) (history : History) (token : Token) (folder : Fold
       (bytes-stand (name_limit (Lock number)) (folder.file (Lock number)) text gives)
       (locks-same folder) refl refl
   read-step name (done found) gives = lock_watched name found gives (locks-same folder) refl refl
-  read-step _ (failed effect) gives = lock_quiet (locks-same folder) refl refl
-  read-step _ (died effect) gives = lock_quiet (locks-same folder) refl refl
+  read-step name result gives = lock_quiet (locks-same folder) refl refl
 
   -- a verdict
   verdict-step : (asked : Token) (result : CallResult Verdict) →
@@ -113,17 +112,15 @@ module _ (deeds : SuiteDeeds) (history : History) (token : Token) (folder : Fold
   create-step number (done Done) rule absent =
       lock_created number rule absent (record { numbers = refl; texts = λ other. refl })
       (inl (ap (makes (lock_made number)) rule.first)) refl
-  create-step number (done Exists) rule given = lock_tried (locks-same folder) refl refl
   create-step number (failed happened) rule absent =
       lock_created number rule absent (record { numbers = refl; texts = λ other. refl })
       (inr (ap (makes (lock_unsure number)) rule.first)) refl
-  create-step number (failed nothing) rule given = lock_tried (locks-same folder) refl refl
   create-step number (failed (left content)) rule given = absurd given
   create-step number (died happened) rule absent =
       lock_created number rule absent (record { numbers = refl; texts = λ other. refl })
       (inr (ap (makes (lock_unsure number)) rule.first)) refl
-  create-step number (died nothing) rule given = lock_tried (locks-same folder) refl refl
   create-step number (died (left content)) rule given = absurd given
+  create-step number result rule given = lock_tried (locks-same folder) refl refl
 
   -- a keeper's lock is freed where the free text comes to it
   freed-kept : (number : ℕ) → standing.own ≡ lock_kept number →
@@ -151,16 +148,11 @@ module _ (deeds : SuiteDeeds) (history : History) (token : Token) (folder : Fold
       GivesEffect folder (renames FreeStage (Lock number))
       (effect_of (renames FreeStage (Lock number)) result) →
       StepOf (renames FreeStage (Lock number)) result
-  free-step number (done answer) keeps some =
-      given-up number _ keeps some (freed-kept number keeps) refl
-  free-step number (failed happened) keeps some =
-      given-up number _ keeps some (freed-kept number keeps) refl
   free-step number (failed nothing) keeps given = lock_quiet (locks-same folder) refl refl
   free-step number (failed (left content)) keeps given = absurd given
-  free-step number (died happened) keeps some =
-      given-up number _ keeps some (freed-kept number keeps) refl
   free-step number (died nothing) keeps given = lock_quiet (locks-same folder) refl refl
   free-step number (died (left content)) keeps given = absurd given
+  free-step number result keeps some = given-up number _ keeps some (freed-kept number keeps) refl
 
   -- a removal of a lock
   unlock-step : (number : ℕ) (result : CallResult (Unit {0})) → UnlockRule standing number →

@@ -1,41 +1,12 @@
 -- Names and tables: which are the same, and which a test tells apart (`apart`).
-use Rattle.std.proofs.Common.{◌≡◌, refl, sym, ap, ◌∙◌, ℕ, zero, suc, Bool, true, false, if◌then◌else◌, true≢false}
+use Rattle.std.proofs.Common.{◌≡◌, refl, sym, ap, ◌∙◌, Bool, true, false, if◌then◌else◌, true≢false}
 use Rattle.acct_text.specs.declared.Tab.{Tab}
-use Rattle.acct_text.specs.declared.Tab.TheVariants.{Passwd, Shadow, Group, Gshadow, Subuid, Subgid}
-use Rattle.acct_text.specs.Tables.{same_table, table_place}
+use Rattle.acct_text.specs.Tables.{same_table}
 use Rattle.acct_outside.specs.declared.Name.{Name}
-use Rattle.acct_outside.specs.declared.Name.TheVariants.{Table, Backup, Staged, Intent, IntentStage, BackupStage, FreeStage, Lock, Defs}
+use Rattle.acct_outside.specs.declared.Name.TheVariants.{Table, Lock, Defs}
 use Rattle.acct_outside.specs.Names.{is_staging, same_name}
+use Rattle.acct_outside.proofs.NameLemmas.{name-is, table-is, table-same}
 use Rattle.suite_rules.specs.Knowledge.{is_input}
-use Rattle.suite_rules.proofs.Numbers.{number-is, number-same}
-
--- the table at a place of the fixed order
-abbrev table_at : ℕ → Tab
-table_at zero = Passwd
-table_at (suc zero) = Shadow
-table_at (suc (suc zero)) = Group
-table_at (suc (suc (suc zero))) = Gshadow
-table_at (suc (suc (suc (suc zero)))) = Subuid
-table_at _ = Subgid
-
--- each table stands at its place
-table_at-place : (table : Tab) → table_at (table_place table) ≡ table
-table_at-place Passwd = refl
-table_at-place Shadow = refl
-table_at-place Group = refl
-table_at-place Gshadow = refl
-table_at-place Subuid = refl
-table_at-place Subgid = refl
-
--- the same by the test, so the same
-pub table-is : (table other : Tab) → same_table table other ≡ true → table ≡ other
-table-is table other is =
-    sym (table_at-place table)
-    ∙ (ap table_at (number-is (table_place table) (table_place other) is) ∙ table_at-place other)
-
--- a table is the same as itself by the test
-pub table-same : (table : Tab) → same_table table table ≡ true
-table-same table = number-same (table_place table)
 
 -- the test takes either first
 pub table-turned : (table other : Tab) → same_table other table ≡ false →
@@ -67,19 +38,6 @@ pub input-no-staging : (name : Name) → is_input name ≡ true → is_staging n
 input-no-staging (Table table) is = refl
 input-no-staging Defs is = refl
 input-no-staging _ is = absurd (true≢false (sym is))
-
--- the same by the test, so the same
-pub name-is : (name other : Name) → same_name name other ≡ true → name ≡ other
-name-is (Table table) (Table other) is = ap (λ (tab : Tab). Table tab) (table-is table other is)
-name-is (Backup table) (Backup other) is = ap (λ (tab : Tab). Backup tab) (table-is table other is)
-name-is (Staged table) (Staged other) is = ap (λ (tab : Tab). Staged tab) (table-is table other is)
-name-is Intent Intent is = refl
-name-is IntentStage IntentStage is = refl
-name-is BackupStage BackupStage is = refl
-name-is FreeStage FreeStage is = refl
-name-is Defs Defs is = refl
-name-is (Lock number) (Lock other) is = ap (λ (lock : ℕ). Lock lock) (number-is number other is)
-name-is name other is = absurd (true≢false (sym is))
 
 -- names that a test tells apart are not the same
 pub apart : (test : Name → Bool) (name other : Name) (one two : Bool) →

@@ -8,12 +8,12 @@ use Rattle.acct_outside.specs.Tokens.{Token}
 use Rattle.acct_outside.specs.Folder.{Folder}
 use Rattle.acct_outside.specs.Calls.{Command, Call, Answer, CallResult, begins, renames, done, failed, died, effect_of}
 use Rattle.acct_outside.specs.History.{Event, History}
-use Rattle.acct_outside.specs.Life.{Life, unbegun, running, faulted, ended, life, MayCall}
+use Rattle.acct_outside.specs.Life.{Life, unbegun, life, MayCall}
 use Rattle.acct_outside.specs.declared.CommitStage.TheVariants.{Before, Unsure, Committed}
 use Rattle.suite_rules.specs.Deeds.{SuiteDeeds}
 use Rattle.suite_rules.specs.OwnLock.{kept_number, made_number}
 use Rattle.suite_rules.specs.Standing.{Standing, calls_commit, command_step, commit_step, standing}
-use Rattle.suite_rules.specs.Rules.{KeeperRule, CommitRule, moves_backup, moves_free, Permits, commit_rule, move_rule}
+use Rattle.suite_rules.specs.Rules.{KeeperRule, CommitRule, moves_free, Permits, commit_rule, move_rule}
 use Rattle.suite_rules.specs.Lawful.{KeepsRulesOrNone, IsNext, Lawful, goes_on}
 use Rattle.suite_rules.specs.Committed.{Commitment, commits, commitment_of, committed, commitments_of}
 use Rattle.suite_rules.specs.Laws.{CommittedOnce}
@@ -50,9 +50,7 @@ module _ (token : Token) where
 begins-unbegun : (before : Life) (command : Command) → MayCall before (begins command) →
     before ≡ unbegun
 begins-unbegun unbegun command may = refl
-begins-unbegun running command may = absurd may
-begins-unbegun faulted command may = absurd may
-begins-unbegun ended command may = absurd may
+begins-unbegun before command may = absurd may
 
 -- a session that has begun is asked nothing else
 command-stays : (deeds : SuiteDeeds) (history : History) (token : Token) (call : Call)
@@ -61,8 +59,6 @@ command-stays : (deeds : SuiteDeeds) (history : History) (token : Token) (call :
     command_step call result given ≡ given
 command-stays deeds history token (begins command) (done answer) given keeps begun =
     absurd (begun (begins-unbegun (life token history) command keeps.life_rule))
-command-stays deeds history token (begins command) (failed effect) given keeps begun = refl
-command-stays deeds history token (begins command) (died effect) given keeps begun = refl
 command-stays deeds history token _ result given keeps begun = refl
 
 -- the call commits, for the first time
@@ -102,11 +98,9 @@ module _ (deeds : SuiteDeeds) (token : Token) (standing : Standing) where
     rule = rule;
     newly = commits-now result rule.first;
   })
-  permitted-step _ result (move_rule _ _ keeper (moves_backup table may)) =
-      inl (record { same = refl; none = refl })
   permitted-step _ result (move_rule _ _ keeper (moves_free staged)) =
       inl (record { same = refl; none = refl })
-  permitted-step _ result _ = inl (record { same = refl; none = refl })
+  permitted-step _ result rule = inl (record { same = refl; none = refl })
 
 -- so does an event
 event-step : (deeds : SuiteDeeds) (history : History) (token : Token) (call : Call)

@@ -17,7 +17,7 @@ use Rattle.suite_rules.specs.Deeds.{SuiteDeeds}
 use Rattle.suite_rules.specs.OwnLock.{OwnLock, lock_kept, lock_freed, is_keeper, made_number, kept_number, own_step}
 use Rattle.suite_rules.specs.Knowledge.{Seen, Knowledge, knows_nothing, knows_none, knows_step}
 use Rattle.suite_rules.specs.Standing.{Standing, standing, keeper_part}
-use Rattle.suite_rules.specs.Rules.{moves_backup, moves_free, Permits, free_begin, free_listing, free_read, free_verdict, create_rule, staging_rule, append_rule, commit_rule, install_rule, clear_rule, move_rule, unlock_rule, answer_rule}
+use Rattle.suite_rules.specs.Rules.{moves_backup, Permits, free_read, commit_rule, install_rule, clear_rule, move_rule}
 use Rattle.suite_rules.specs.Lawful.{KeepsRulesOrNone, IsNext, Lawful, goes_on}
 use Rattle.suite_rules.specs.Committed.{Commitment, committed, place, folded}
 use Rattle.suite_rules.specs.Invariant.{KnownStands}
@@ -52,40 +52,19 @@ module _ (deeds : SuiteDeeds) (standing : Standing) where
       (life_step call result life ≡ running →
       is_keeper (own_step call result standing.own) ≡ true → ⊥) →
       KnowsAfter call result ≡ standing.knows
-  idle-knows life _ result (free_begin command) may keeps idle = refl
-  idle-knows life _ result free_listing may keeps idle = refl
   idle-knows life _ (done found) (free_read name) may keeps idle =
       absurd (idle (rw (active life (reads name) refl may) refl) keeps)
   idle-knows life _ (failed effect) (free_read name) may keeps idle = refl
   idle-knows life _ (died effect) (free_read name) may keeps idle = refl
-  idle-knows life _ result (free_verdict asked) may keeps idle = refl
-  idle-knows life _ result (create_rule number rule) may keeps idle = refl
-  idle-knows life _ result (staging_rule name piece keeper rule) may keeps idle = refl
-  idle-knows life _ result (append_rule name piece keeper rule) may keeps idle = refl
   idle-knows life _ (done answer) (commit_rule keeper rule) may keeps idle =
       absurd (idle (rw (active life (renames IntentStage Intent) refl may) refl) keeps)
-  idle-knows life _ (failed effect) (commit_rule keeper rule) may keeps idle = refl
-  idle-knows life _ (died effect) (commit_rule keeper rule) may keeps idle = refl
   idle-knows life _ (done answer) (install_rule table keeper rule) may keeps idle =
       absurd (idle (rw (active life (renames (Staged table) (Table table)) refl may) refl) keeps)
-  idle-knows life _ (failed effect) (install_rule table keeper rule) may keeps idle = refl
-  idle-knows life _ (died effect) (install_rule table keeper rule) may keeps idle = refl
   idle-knows life _ (done answer) (clear_rule keeper rule) may keeps idle =
       absurd (idle (rw (active life (removes Intent) refl may) refl) keeps)
-  idle-knows life _ (failed effect) (clear_rule keeper rule) may keeps idle = refl
-  idle-knows life _ (died effect) (clear_rule keeper rule) may keeps idle = refl
   idle-knows life _ (done answer) (move_rule _ _ keeper (moves_backup table rule)) may keeps idle =
       absurd (idle (rw (active life (renames BackupStage (Backup table)) refl may) refl) keeps)
-  idle-knows life _ (failed effect)
-      (move_rule _ _ keeper (moves_backup table rule)) may keeps idle =
-      refl
-  idle-knows life _ (died effect) (move_rule _ _ keeper (moves_backup table rule)) may keeps idle =
-      refl
-  idle-knows life _ (done answer) (move_rule _ _ keeper (moves_free staged)) may keeps idle = refl
-  idle-knows life _ (failed effect) (move_rule _ _ keeper (moves_free staged)) may keeps idle = refl
-  idle-knows life _ (died effect) (move_rule _ _ keeper (moves_free staged)) may keeps idle = refl
-  idle-knows life _ result (unlock_rule number rule) may keeps idle = refl
-  idle-knows life _ result (answer_rule status rule) may keeps idle = refl
+  idle-knows life _ result rule may keeps idle = refl
 
 -- so does such an event
 idle-event : (deeds : SuiteDeeds) (history : History) (token : Token) (call : Call)

@@ -5,7 +5,7 @@ use Rattle.std.proofs.Common.{◌≡◌, ◌≢◌, refl, sym, ap, subst, ◌∙
 use Rattle.std.proofs.lemmas.Slice.Eq.{bytes_eq-Decides}
 use Rattle.acct_outside.specs.Tokens.{Token}
 use Rattle.acct_outside.specs.Folder.{Folder}
-use Rattle.acct_outside.specs.Calls.{Call, Answer, CallResult, begins, lists, reads, asks, creates, writes, appends, renames, removes, answers, done, failed, died}
+use Rattle.acct_outside.specs.Calls.{Call, Answer, CallResult, lists, creates, renames, answers, done, failed, died}
 use Rattle.acct_outside.specs.History.{Event, History}
 use Rattle.acct_outside.specs.Life.{Life, unbegun, running, faulted, ended, life, life_step, life_after_call, runs_in}
 use Rattle.suite_rules.specs.Deeds.{SuiteDeeds}
@@ -113,30 +113,20 @@ begun-stays : (call : Call) (result : CallResult (Answer call)) (before : Life) 
 begun-stays call result unbegun is = refl
 begun-stays (answers status) result running is = absurd (cc)
 begun-stays _ (done answer) running is = absurd (cc)
-begun-stays _ (failed effect) running is = absurd (cc)
-begun-stays _ (died effect) running is = absurd (cc)
 begun-stays (answers status) result faulted is = absurd (cc)
 begun-stays _ (done answer) faulted is = absurd (cc)
-begun-stays _ (failed effect) faulted is = absurd (cc)
-begun-stays _ (died effect) faulted is = absurd (cc)
-begun-stays call result ended is = absurd (cc)
+begun-stays call result before is = absurd (cc)
 
 -- no call but a begin is lawful without one
 pub begin-first : (deeds : SuiteDeeds) (history : History) (token : Token) (call : Call)
     (result : CallResult (Answer call)) → KeepsRulesOrNone deeds history token call result →
     life token history ≡ unbegun → (own : OwnLock) → own_step call result own ≡ own
-begin-first deeds history token (begins command) result keeps is own = refl
 begin-first deeds history token lists result keeps is own = absurd (rw is at keeps.life_rule)
-begin-first deeds history token (reads name) result keeps is own = refl
-begin-first deeds history token (asks asked) result keeps is own = refl
 begin-first deeds history token (creates number) result keeps is own =
     absurd (rw is at keeps.life_rule)
-begin-first deeds history token (writes name bytes) result keeps is own = refl
-begin-first deeds history token (appends name piece) result keeps is own = refl
 begin-first deeds history token (renames from to) result keeps is own =
     absurd (rw is at keeps.life_rule)
-begin-first deeds history token (removes name) result keeps is own = refl
-begin-first deeds history token (answers status) result keeps is own = refl
+begin-first deeds history token call result keeps is own = refl
 
 -- a session without a begin hasn't called create
 pub fresh : (deeds : SuiteDeeds) (first : Folder) (history : History) →

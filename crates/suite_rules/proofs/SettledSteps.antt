@@ -23,7 +23,8 @@ use Rattle.suite_rules.specs.Settled.{settled, listed_by, tables_of_intent}
 use Rattle.suite_rules.specs.Committed.{Commitment, commitment_of, after_deed, fold_deeds}
 use Rattle.suite_rules.specs.Backups.{before_last_change}
 use Rattle.suite_rules.specs.Invariant.{NoneStands, BytesStand, KnownStands, KeeperView}
-use Rattle.suite_rules.proofs.Names.{table-is, fails-apart}
+use Rattle.acct_outside.proofs.NameLemmas.{table-is}
+use Rattle.suite_rules.proofs.Names.{fails-apart}
 use Rattle.suite_rules.proofs.Effects.{FileMoved}
 use Rattle.suite_rules.proofs.FileSteps.{FileEffect, files_stay, file_written, intent_committed, table_installed, table_backed_up, intent_cleared, lock_given_back}
 use Rattle.intent_file.proofs.ChangedTablesLemmas.{content-is}

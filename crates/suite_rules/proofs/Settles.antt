@@ -21,7 +21,7 @@ use Rattle.suite_rules.specs.Deeds.{SuiteDeeds}
 use Rattle.suite_rules.specs.OwnLock.{OwnLock, lock_uncalled, lock_kept, is_keeper, own_step}
 use Rattle.suite_rules.specs.Knowledge.{Seen, knows_step}
 use Rattle.suite_rules.specs.Standing.{Standing, calls_commit, commit_step, standing, staged_step}
-use Rattle.suite_rules.specs.Rules.{KeeperRule, moves_backup, moves_free, Permits, commit_rule, move_rule, KeepsRules}
+use Rattle.suite_rules.specs.Rules.{KeeperRule, moves_free, Permits, commit_rule, move_rule, KeepsRules}
 use Rattle.suite_rules.specs.Lawful.{KeepsRulesOrNone, IsNext, Lawful, goes_on}
 use Rattle.suite_rules.specs.Settled.{settled}
 use Rattle.suite_rules.specs.Committed.{Commitment, Rises, commits, committed, place, fold_deeds, folded}
@@ -126,11 +126,9 @@ permitted-commits : (deeds : SuiteDeeds) (token : Token) (standing : Standing) (
     ⊎ (commit_step call result standing.commit ≢ Before)
 permitted-commits deeds token standing _ result (commit_rule keeper rule) =
     inr (commit-called result standing.commit)
-permitted-commits deeds token standing _ result (move_rule _ _ keeper (moves_backup table may)) =
-    inl refl
 permitted-commits deeds token standing _ result (move_rule _ _ keeper (moves_free staged)) =
     inl refl
-permitted-commits deeds token standing _ result _ = inl refl
+permitted-commits deeds token standing call result rule = inl refl
 
 -- so does each event
 event-commits : (deeds : SuiteDeeds) (history : History) (token : Token) (call : Call)
@@ -324,12 +322,6 @@ module _ (deeds : SuiteDeeds) (first : Folder) (event : Event) (history : Histor
       cases : (list : List Commitment) → newly ≡ list →
           FileEffect deeds event.token (after first history) (after first (event ∷ history))
           (life event.token history) (standing event.token history) list → P list
-      cases _ is (files_stay same) = none
-      cases _ is (file_written name stage keeper runs same) = none
-      cases _ is (table_installed table keeper rule runs now) = none
-      cases _ is (table_backed_up table keeper rule runs now) = none
-      cases _ is (intent_cleared keeper rule runs gone same) = none
-      cases _ is (lock_given_back keeper runs same) = none
       cases _ is (intent_committed keeper rule runs now) =
           let commit = committing deeds event.token (after first history)
           (after first (event ∷ history)) (life event.token history)
@@ -337,6 +329,7 @@ module _ (deeds : SuiteDeeds) (first : Folder) (event : Event) (history : Histor
           subst P (sym commit.one)
           (some keeper rule.has_seen.command (record { runs = runs; keeps = keeper.keeps })
           rule.first (is ∙ commit.one))
+      cases _ is other = none
 
   -- the event's session has called its commit where the event committed one
   newly-called : (one : Commitment) → newly ≡ one ∷ [] →

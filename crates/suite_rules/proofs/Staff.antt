@@ -102,11 +102,7 @@ content_length (Some bytes) = length bytes
 -- each new file is within the limit
 staff-length : (table : Tab) → content_length (staff_files table) ≤ table_limit
 staff-length Passwd = lit≤ tt
-staff-length Shadow = lit≤ tt
-staff-length Group = lit≤ tt
-staff-length Gshadow = lit≤ tt
-staff-length Subuid = lit≤ tt
-staff-length Subgid = lit≤ tt
+staff-length table = lit≤ tt
 
 module _ (files new : Contents) (are : AreFirst files new) where
   -- group differs
@@ -210,11 +206,7 @@ pub staff-in-place : (table : Tab) (bytes : Bytes) →
     listed_in staff_intended.tables table ≡ Some bytes →
     table_with Group (λ other. false) table ≡ true
 staff-in-place Group bytes listed = refl
-staff-in-place Passwd bytes listed = absurd (cc)
-staff-in-place Shadow bytes listed = absurd (cc)
-staff-in-place Gshadow bytes listed = absurd (cc)
-staff-in-place Subuid bytes listed = absurd (cc)
-staff-in-place Subgid bytes listed = absurd (cc)
+staff-in-place table bytes listed = absurd (cc)
 
 -- what a keeper has seen that knows of no intent
 abbrev pub seen_of : Knowledge → Seen

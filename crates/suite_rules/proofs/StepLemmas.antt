@@ -17,7 +17,7 @@ use Rattle.acct_outside.specs.declared.Found.{Found as Reading}
 use Rattle.acct_outside.specs.Names.{name_limit}
 use Rattle.acct_outside.specs.Tokens.{Token}
 use Rattle.acct_outside.specs.Folder.{Folder}
-use Rattle.acct_outside.specs.Calls.{Command, Call, Answer, CallResult, Effect, begins, lists, reads, asks, creates, writes, appends, renames, removes, answers, done, failed, died}
+use Rattle.acct_outside.specs.Calls.{Command, Call, Answer, CallResult, Effect, begins, reads, answers, done, failed, died}
 use Rattle.acct_outside.specs.History.{Event, History, is_of, own_events, after}
 use Rattle.acct_outside.specs.Life.{Life, life, running, faulted, life_step, runs_in, MayCall}
 use Rattle.acct_outside.specs.Gives.{GivesResult}
@@ -153,30 +153,14 @@ IsNoAnswer _ = Unit {0}
 -- after a done call that isn't the answer a session runs on
 done-runs : (call : Call) (answer : Answer call) → IsNoAnswer call →
     life_step call (done answer) running ≡ running
-done-runs (begins command) answer is = refl
-done-runs lists answer is = refl
-done-runs (reads name) answer is = refl
-done-runs (asks token) answer is = refl
-done-runs (creates number) answer is = refl
-done-runs (writes name bytes) answer is = refl
-done-runs (appends name piece) answer is = refl
-done-runs (renames from to) answer is = refl
-done-runs (removes name) answer is = refl
 done-runs (answers status) answer is = absurd is
+done-runs call answer is = refl
 
 -- after a failed call that isn't the answer a session can only answer
 failed-faults : (call : Call) (effect : Effect) → IsNoAnswer call →
     life_step call (failed effect) running ≡ faulted
-failed-faults (begins command) effect is = refl
-failed-faults lists effect is = refl
-failed-faults (reads name) effect is = refl
-failed-faults (asks token) effect is = refl
-failed-faults (creates number) effect is = refl
-failed-faults (writes name bytes) effect is = refl
-failed-faults (appends name piece) effect is = refl
-failed-faults (renames from to) effect is = refl
-failed-faults (removes name) effect is = refl
 failed-faults (answers status) effect is = absurd is
+failed-faults call effect is = refl
 
 -- one of the session's calls failed, and this holds of its standing
 pub record Faulted (token : Token) (Holds : Standing → Type 0) (past : Past) : Type 0 where
@@ -219,8 +203,7 @@ module _ (before_admits admits : Admission) (narrows : Narrows before_admits adm
         own = still-own stands.own;
         holds = subst Holds (sym step.next_standing) (follows _ stands.holds);
       }
-  stands-done Holds answer follows None (Some now) stands tells = absurd tells
-  stands-done Holds answer follows (Some before) None stands tells = absurd tells
+  stands-done Holds answer follows before now stands tells = absurd tells
 
   -- a failed call leads to a condition that follows from the one before, whatever its effect
   pub failed-leads : (Holds : Standing → Type 0) →
@@ -237,8 +220,7 @@ module _ (before_admits admits : Admission) (narrows : Narrows before_admits adm
         faults = faults-then effect before.history now.history stands.runs step;
         holds = subst Holds (sym step.next_standing) (follows effect _ stands.holds);
       }
-  failed-leads Holds follows None (Some now) stands tells = absurd tells
-  failed-leads Holds follows (Some before) None stands tells = absurd tells
+  failed-leads Holds follows before now stands tells = absurd tells
 
   -- want of memory leaves the condition as it was
   pub stands-memory : (before now : Option Past) → StandsWhere before_admits before token Held →
@@ -252,8 +234,7 @@ module _ (before_admits admits : Admission) (narrows : Narrows before_admits adm
         own = still-own stands.own;
         holds = subst Held (sym stay.same_standing) stands.holds;
       }
-  stands-memory None (Some now) stands tells = absurd tells
-  stands-memory (Some before) None stands tells = absurd tells
+  stands-memory before now stands tells = absurd tells
 
   -- whatever the call answered, the session may answer
   pub may-answer : (answer : Result (Answer call) FolderFault) (before now : Option Past) →
@@ -277,8 +258,7 @@ module _ (before_admits admits : Admission) (narrows : Narrows before_admits adm
   may-answer (Err Memory) (Some before) (Some now) stands tells =
       let stay = stayed before_admits token stands.own before.history now.history tells.1 in
       record { runs = ap runs_in (stay.same_life ∙ stands.runs); own = still-own stands.own }
-  may-answer answer None (Some now) stands tells = absurd tells
-  may-answer answer (Some before) None stands tells = absurd tells
+  may-answer answer before now stands tells = absurd tells
 
   -- whatever the call answered, a part of the standing that its step leaves is as it was
   pub leaves : {A : Type 0} (part : Standing → A) →
@@ -300,8 +280,7 @@ module _ (before_admits admits : Admission) (narrows : Narrows before_admits adm
   leaves part same (Err Memory) (Some before) (Some now) stands tells =
       let stay = stayed before_admits token stands.own before.history now.history tells.1 in
       (tells.0, ap part stay.same_standing)
-  leaves part same answer None (Some now) stands tells = absurd tells
-  leaves part same answer (Some before) None stands tells = absurd tells
+  leaves part same answer before now stands tells = absurd tells
 
 -- the step that shows the answer of its call makes this call
 pub makes-call : (before now : Moment) → Narrows before.admits now.admits → (token : Token)
@@ -333,8 +312,7 @@ module _ {A : Type 0} (part : Standing → A) (value : A) (Held Holds : Standing
     own = stands.own;
     holds = (stands.holds, left.1 ∙ had _ held.holds);
   }
-  stands-left None (Some now) held left stands = absurd left
-  stands-left (Some before) None held left stands = absurd left
+  stands-left before now held left stands = absurd left
 
 -- A session whose begin was done stands as one that has only begun.
 module _ (before_admits admits : Admission) (token : Token) (command : Command)
@@ -361,8 +339,7 @@ module _ (before_admits admits : Admission) (token : Token) (command : Command)
     holds = own-events.same_standing token now.history
         ∙ (ap (standing token) tells.1.1 ∙ begin-standing);
   }
-  stands-begun None (Some now) tells = absurd tells
-  stands-begun (Some before) None tells = absurd tells
+  stands-begun before now tells = absurd tells
 
 -- admitted events of others keep a history lawful, where the folder admits only lawful ones
 pub others-lawful : (deeds : SuiteDeeds) (admits : Admission) (first : Folder) →
@@ -425,8 +402,7 @@ module _ (deeds : SuiteDeeds) (admits : Admission) (token : Token) (call : Call)
     λ others lawful. others-lawful deeds admits before.first others
         before.history now.history tells.1 lawful,
   )
-  stays-lawful answer None (Some now) stands tells = absurd tells
-  stays-lawful answer (Some before) None stands tells = absurd tells
+  stays-lawful answer before now stands tells = absurd tells
 
 -- by whether the history is told, a read with the limit of its name tells the read's event
 read-told : (admits : Admission) (token : Token) (name : Name)
@@ -443,8 +419,7 @@ read-told admits token name (Err Failed) (Some before) (Some now) tells = (
   (tells.1.0, record { others_then = tells.1.1.others_then; given = tt }),
 )
 read-told admits token name (Err Memory) (Some before) (Some now) tells = tells
-read-told admits token name result None (Some now) tells = absurd tells
-read-told admits token name result (Some before) None tells = absurd tells
+read-told admits token name result before now tells = absurd tells
 
 -- a read with the limit of its name tells the read's event
 pub read-tells : (before now : Moment) (token : Token) (name : Name)

@@ -19,7 +19,8 @@ use Rattle.suite_rules.specs.Knowledge.{Knowledge, knows_nothing, knows_none, kn
 use Rattle.suite_rules.specs.Standing.{Standing, staged_with}
 use Rattle.suite_rules.specs.Rules.{AppendRule, CommitRule, InstallRule, MayBackUp}
 use Rattle.suite_rules.specs.Invariant.{NoneStands, BytesStand, KnownStands, KeeperView}
-use Rattle.suite_rules.proofs.Names.{is_lock, table-is, table-same, staging-no-lock, input-no-lock, input-no-staging, name-is, passes-apart, fails-apart, else-is}
+use Rattle.acct_outside.proofs.NameLemmas.{name-is, table-is, table-same}
+use Rattle.suite_rules.proofs.Names.{is_lock, staging-no-lock, input-no-lock, input-no-staging, passes-apart, fails-apart, else-is}
 use Rattle.suite_rules.proofs.Effects.{SameFiles, FileMoved, write-others, append-others, file-moved, absent-stands, bytes-stand, whole-stands}
 use Rattle.suite_rules.proofs.LockKept.{or-cases}
 

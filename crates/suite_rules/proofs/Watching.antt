@@ -24,7 +24,8 @@ use Rattle.suite_rules.specs.Rules.{KeeperRule}
 use Rattle.suite_rules.specs.Lawful.{IsNext, Lawful, goes_on}
 use Rattle.suite_rules.specs.Invariant.{ReportViewHolds}
 use Rattle.suite_rules.proofs.Numbers.{number-is, number-differs}
-use Rattle.suite_rules.proofs.Names.{is_lock, name-is}
+use Rattle.acct_outside.proofs.NameLemmas.{name-is}
+use Rattle.suite_rules.proofs.Names.{is_lock}
 use Rattle.suite_rules.proofs.Sessions.{each, other-standing}
 use Rattle.suite_rules.proofs.Effects.{SameFiles}
 use Rattle.suite_rules.proofs.LockSteps.{LockStep, lock_quiet, lock_listed, lock_read, lock_watched, lock_told, lock_tried, lock_created, lock_given_up, lock_removed}

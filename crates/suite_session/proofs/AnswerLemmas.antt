@@ -28,7 +28,7 @@ use Rattle.account_model.specs.Words.{is_batch}
 use Rattle.account_model.specs.Text.{first_some}
 use Rattle.account_model.specs.Messages.{message}
 use Rattle.account_model.specs.Statuses.{file_status}
-use Rattle.account_model.specs.Answer.{FileProblem, TableTooLarge, SettingsTooLarge, TableAbsent, BadSettingAt, AnswerCause, Unusable, Refused, RefusedLine, Same, Changed, Answer as ToolAnswer, must_stand, table_problem, files_problem, file_problem_text, new_problem, files_eq, cause_of, unusable, succeeding, answer_lines, answer_outcome, answer_under, answer_written, answer}
+use Rattle.account_model.specs.Answer.{FileProblem, TableTooLarge, SettingsTooLarge, TableAbsent, BadSettingAt, AnswerCause, Unusable, Same, Changed, Answer as ToolAnswer, must_stand, table_problem, files_problem, file_problem_text, new_problem, files_eq, cause_of, unusable, succeeding, answer_lines, answer_outcome, answer_under, answer_written, answer}
 use Rattle.suite_rules.specs.OwnLock.{kept_number}
 use Rattle.suite_rules.specs.Knowledge.{Knowledge}
 use Rattle.suite_rules.specs.Standing.{standing}
@@ -175,9 +175,7 @@ module _ (tool : Tool) (given : Answer) where
       given.err ≡ message tool (file_problem_text problem) →
       given ≡ given_for tool (cause_of_problem problem)
   problem-says (TableTooLarge table) same status out err = whole-says _ _ _ same status out err
-  problem-says SettingsTooLarge same status out err = whole-says _ _ _ same status out err
-  problem-says (TableAbsent table) same status out err = whole-says _ _ _ same status out err
-  problem-says (BadSettingAt line) same status out err = whole-says _ _ _ same status out err
+  problem-says problem same status out err = whole-says _ _ _ same status out err
 
 -- ---- An answer with which all tables stay
 
@@ -203,12 +201,7 @@ module _ (asked : Question) (files : Files) (defs : Option Bytes) (given : Answe
   cause-says (Unusable SettingsTooLarge) is = problem-given SettingsTooLarge is
   cause-says (Unusable (TableAbsent table)) is = problem-given (TableAbsent table) is
   cause-says (Unusable (BadSettingAt line)) is = problem-given (BadSettingAt line) is
-  cause-says (Refused refusal) is =
-      record { files = files; defs = defs; is_answer = is_answer }
-  cause-says (RefusedLine line refusal) is =
-      record { files = files; defs = defs; is_answer = is_answer }
-  cause-says Same is = record { files = files; defs = defs; is_answer = is_answer }
-  cause-says (Changed new) is = record { files = files; defs = defs; is_answer = is_answer }
+  cause-says cause is = record { files = files; defs = defs; is_answer = is_answer }
 
   pub answer-says : Says asked given given.outcome.cause
   answer-says = subst (Says asked given) (sym is_answer.has_cause) (cause-says _ refl)
@@ -216,14 +209,9 @@ module _ (asked : Question) (files : Files) (defs : Option Bytes) (given : Answe
 -- it comes before the commit
 pub cause-stage : (cause : AnswerCause) → is_change cause ≡ false →
     stage_of (cause_of_answer cause) ≡ Before
-cause-stage (Unusable (TableTooLarge table)) stays = refl
-cause-stage (Unusable SettingsTooLarge) stays = refl
-cause-stage (Unusable (TableAbsent table)) stays = refl
-cause-stage (Unusable (BadSettingAt line)) stays = refl
-cause-stage (Refused refusal) stays = refl
-cause-stage (RefusedLine line refusal) stays = refl
-cause-stage Same stays = refl
 cause-stage (Changed new) stays = absurd (true≢false stays)
+cause-stage (Unusable (TableTooLarge table)) stays = refl
+cause-stage cause stays = refl
 
 -- an answer to a command that changes nothing tells a cause from before the commit
 pub stay-stage : (asked : Question) (files : Files) (defs : Option Bytes) (given : Answer) →
@@ -235,13 +223,7 @@ stay-stage asked files defs given is_answer stays =
 -- no tool's answer tells of a fault of the folder
 cause-quiet : (cause : AnswerCause) → IsOutside (cause_of_answer cause) → ⊥
 cause-quiet (Unusable (TableTooLarge table)) fault = fault
-cause-quiet (Unusable SettingsTooLarge) fault = fault
-cause-quiet (Unusable (TableAbsent table)) fault = fault
-cause-quiet (Unusable (BadSettingAt line)) fault = fault
-cause-quiet (Refused refusal) fault = fault
-cause-quiet (RefusedLine line refusal) fault = fault
-cause-quiet Same fault = fault
-cause-quiet (Changed new) fault = fault
+cause-quiet cause fault = fault
 
 -- no answer to a command tells a cause that comes from outside
 pub answer-quiet : (asked : Question) (files : Files) (defs : Option Bytes) (given : Answer) →
@@ -312,11 +294,8 @@ module _ (runner : Runner) (inputs : Inputs) (given : Answer) (history : History
   cause-shown (Unusable (TableTooLarge table)) stays = inl (inl (shows-all, keeper-now))
   cause-shown (Unusable SettingsTooLarge) stays = inl (inl (shows-all, keeper-now))
   cause-shown (Unusable (TableAbsent table)) stays = inl (shows-some, keeper-now)
-  cause-shown (Unusable (BadSettingAt line)) stays = inl (shows-all, keeper-now)
-  cause-shown (Refused refusal) stays = inl (shows-all, keeper-now)
-  cause-shown (RefusedLine line refusal) stays = inl (shows-all, keeper-now)
-  cause-shown Same stays = inl (shows-all, keeper-now)
   cause-shown (Changed new) stays = absurd (true≢false stays)
+  cause-shown cause stays = inl (shows-all, keeper-now)
 
   pub stay-shown : is_change (answer_on runner.asked inputs.files inputs.defs).cause ≡ false →
       IsShown runner given history given.outcome.cause
@@ -352,12 +331,7 @@ problem-told asked files defs problem is = by-problem problem
         IsAnswerOn asked files defs (given_for asked.request.tool (cause_of_problem one))
     by-problem (TableTooLarge table) whole =
         told-problem asked files defs (TableTooLarge table) whole _ refl _ refl refl refl refl
-    by-problem SettingsTooLarge whole =
-        told-problem asked files defs SettingsTooLarge whole _ refl _ refl refl refl refl
-    by-problem (TableAbsent table) whole =
-        told-problem asked files defs (TableAbsent table) whole _ refl _ refl refl refl refl
-    by-problem (BadSettingAt line) whole =
-        told-problem asked files defs (BadSettingAt line) whole _ refl _ refl refl refl refl
+    by-problem one whole = told-problem asked files defs one whole _ refl _ refl refl refl refl
 
 -- ---- A table that is absent
 

@@ -6,7 +6,7 @@ use Rattle.std.proofs.Common.{◌≡◌, sym, subst, ◌∙◌, Result, Ok, Err}
 use Rattle.acct_outside.specs.declared.FolderFault.{FolderFault}
 use Rattle.acct_outside.specs.declared.FolderFault.TheVariants.{Failed, Memory as NoMemory}
 use Rattle.acct_outside.specs.Tokens.{Token}
-use Rattle.acct_outside.specs.Calls.{Answer, Call, begins, lists, reads, asks, creates, writes, appends, renames, removes, answers}
+use Rattle.acct_outside.specs.Calls.{Answer, Call, lists}
 use Rattle.acct_outside.specs.Journal.{makes, reply_of, was_refused}
 use Rattle.acct_outside.specs.Moment.{Moment, Notes}
 use Rattle.suite_rules.specs.Standing.{Standing}
@@ -23,15 +23,7 @@ use Rattle.suite_session.proofs.MeetingLemmas.{MeetsBy}
 -- a call that was done wasn't refused
 pub done-goes : (call : Call) (given : Answer call) → reply_of call (Ok given) ≡ was_refused → ⊥
 done-goes lists given is = absurd (cc is)
-done-goes (begins command) given is = absurd (cc is)
-done-goes (reads name) given is = absurd (cc is)
-done-goes (asks token) given is = absurd (cc is)
-done-goes (creates number) given is = absurd (cc is)
-done-goes (writes name bytes) given is = absurd (cc is)
-done-goes (appends name piece) given is = absurd (cc is)
-done-goes (renames from to) given is = absurd (cc is)
-done-goes (removes name) given is = absurd (cc is)
-done-goes (answers status) given is = absurd (cc is)
+done-goes call given is = absurd (cc is)
 
 -- an answer alone tells whatever was met
 tells-all : (state : State) → ((met : Cause) → IsToTell state met) → IsAnswering state

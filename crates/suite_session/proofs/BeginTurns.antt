@@ -125,8 +125,7 @@ begin-one admits command token Otherwise (Some before) (Some now) tells = (
         (sym (begin-new admits command token (Some before) (Some now) tells)),
   ),
 )
-begin-one admits command token Otherwise None (Some now) tells = absurd tells
-begin-one admits command token Otherwise (Some before) None tells = absurd tells
+begin-one admits command token Otherwise before now tells = absurd tells
 
 -- in its first state a session has called the begin alone
 first-called : (runner : Runner) (state : State) (history : History) →
@@ -190,8 +189,7 @@ begin-came admits runner state is (Some before) (Some now) tells =
       staged = staged-first runner.token runner.asked.command state now.history tells.1.1;
       free = λ report. first-free runner state now.history tells.1.1 is;
     }
-begin-came admits runner state is None (Some now) tells = absurd tells
-begin-came admits runner state is (Some before) None tells = absurd tells
+begin-came admits runner state is before now tells = absurd tells
 
 -- it keeps a history lawful, for whatever deeds
 begin-lawful : (deeds : SuiteDeeds) (admits : Admission) (command : Command)
@@ -231,8 +229,7 @@ begin-lawful deeds admits command (Err NoMemory) (Some before) (Some now) tells 
   λ others lawful.
       others-lawful deeds admits before.first others before.history now.history tells.1 lawful,
 )
-begin-lawful deeds admits command result None (Some now) tells = absurd tells
-begin-lawful deeds admits command result (Some before) None tells = absurd tells
+begin-lawful deeds admits command result before now tells = absurd tells
 
 -- the command of what was asked is that of the words, the input and the day
 pub asked-command : {words others : List Word} (input : Bytes) (day : ℕ) (asked : Question)

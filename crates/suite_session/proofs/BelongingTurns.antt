@@ -73,11 +73,10 @@ answered-given before now runner answer way turns =
     own-now : (was told : Option Past) → Grew before.admits runner.token 1 was told →
         IfSome was (λ past. NeverAdmits before.admits runner.token) →
         IfSome told (λ past. NeverAdmits now.admits runner.token)
-    own-now None None grew own = tt
     own-now (Some was) (Some past) grew own = λ history event admitted.
         own history event (turns.narrows history event admitted)
     own-now None (Some past) grew own = absurd grew
-    own-now (Some was) None grew own = tt
+    own-now was told grew own = tt
 
 -- the first claim
 pub turned-belongs : (before now : Moment) (old new : Phase) → Belongs before old →
@@ -95,10 +94,6 @@ turned-belongs before now (Over runner answer) (Over same given) belongs turns =
     subst (λ (one : Runner). HasGiven now one given) (sym turns.0)
     (subst (λ (one : Answer). HasGiven now runner one) (sym turns.1)
     (given-stays before now runner (stays-came before now runner.token turns.2) answer belongs))
-turned-belongs before now (Over runner answer) (Begun same state) belongs turns = absurd turns
-turned-belongs before now (Waiting asked) (Over same answer) belongs turns = absurd turns
-turned-belongs before now (Unbegun tool answer) (Begun same state) belongs turns = absurd turns
-turned-belongs before now (Unbegun tool answer) (Over same given) belongs turns = absurd turns
 turned-belongs before now old (Waiting asked) belongs turns = tt
 turned-belongs before now (Waiting asked) (Unbegun tool answer) belongs turns =
     subst (λ (one : Tool). HasNoToken one answer) (sym turns.0)
@@ -106,8 +101,7 @@ turned-belongs before now (Waiting asked) (Unbegun tool answer) belongs turns =
 turned-belongs before now (Unbegun tool answer) (Unbegun same given) belongs turns =
     subst (λ (one : Tool). HasNoToken one given) (sym turns.0)
     (subst (HasNoToken tool) (sym turns.1) belongs)
-turned-belongs before now (Begun runner state) (Unbegun tool answer) belongs turns = absurd turns
-turned-belongs before now (Over runner given) (Unbegun tool answer) belongs turns = absurd turns
+turned-belongs before now old new belongs turns = absurd turns
 
 -- ---- After another session's turn
 
@@ -147,16 +141,7 @@ turn-leaves before now (Over runner answer) (Over same given) turns =
     stays-left before now turns.2
 turn-leaves before now (Unbegun tool answer) (Unbegun same given) turns =
     stays-left before now turns.2
-turn-leaves before now (Waiting asked) (Waiting other) turns = absurd turns
-turn-leaves before now (Waiting asked) (Over runner answer) turns = absurd turns
-turn-leaves before now (Begun runner state) (Waiting other) turns = absurd turns
-turn-leaves before now (Begun runner state) (Unbegun tool answer) turns = absurd turns
-turn-leaves before now (Over runner answer) (Waiting other) turns = absurd turns
-turn-leaves before now (Over runner answer) (Begun same state) turns = absurd turns
-turn-leaves before now (Over runner answer) (Unbegun tool given) turns = absurd turns
-turn-leaves before now (Unbegun tool answer) (Waiting other) turns = absurd turns
-turn-leaves before now (Unbegun tool answer) (Begun same state) turns = absurd turns
-turn-leaves before now (Unbegun tool answer) (Over same given) turns = absurd turns
+turn-leaves before now old new turns = absurd turns
 
 -- these are of others than a session that the folder admits no event of, and whose token is another
 grown-others : (admits : Admission) (token other : Token) → NeverAdmits admits other →
@@ -192,11 +177,7 @@ module _ (before now : Moment) (old new : Phase) (turns : SessionTurns before no
       by-phase (Begun runner state) next turned differ =
           told-as before.told (λ past one same. differ token
           (ap (λ (name : Token). Some name) same) is) here
-      by-phase (Waiting asked) (Waiting same) turned differ = by-name
-      by-phase (Waiting asked) (Over runner answer) turned differ = by-name
-      by-phase (Waiting asked) (Unbegun tool answer) turned differ = by-name
-      by-phase (Over runner answer) next turned differ = by-name
-      by-phase (Unbegun tool answer) next turned differ = by-name
+      by-phase was next turned differ = by-name
 
   -- so its events are of others
   turn-came : (token : Token) → token_of other ≡ Some token → OthersCame before now token
@@ -221,8 +202,7 @@ module _ (before now : Moment) (old new : Phase) (turns : SessionTurns before no
         grown-others before.admits (turn_token old new) token own differ was.history leaves.most
             past.history grew.1,
       )
-      by-told None (Some past) grew own differ = absurd grew
-      by-told (Some was) None grew own differ = absurd grew
+      by-told was told grew own differ = absurd grew
 
   -- the session that was turned has another token than it still
   still-apart : IfSome before.told (λ past. AreApart new other)
@@ -247,18 +227,11 @@ module _ (before now : Moment) (old new : Phase) (turns : SessionTurns before no
           differ token (ap (λ (one : Runner). Some one.token) (sym turned.0) ∙ mine) its
       by-phase past is (Over runner answer) (Over same given) turned differ token mine its =
           differ token (ap (λ (one : Runner). Some one.token) (sym turned.0) ∙ mine) its
-      by-phase past is (Waiting asked) (Over same answer) turned differ token mine its =
-          absurd turned
-      by-phase past is (Over runner answer) (Begun same state) turned differ token mine its =
-          absurd turned
-      by-phase past is (Unbegun tool answer) (Begun same state) turned differ token mine its =
-          absurd turned
-      by-phase past is (Unbegun tool answer) (Over same given) turned differ token mine its =
-          absurd turned
       by-phase past is was (Waiting asked) turned differ token mine its =
           absurd (let wrong : None ≡ Some token = mine in cc)
       by-phase past is was (Unbegun tool answer) turned differ token mine its =
           absurd (let wrong : None ≡ Some token = mine in cc)
+      by-phase past is was next turned differ token mine its = absurd turned
 
       by-told : (told : Option Past) → before.told ≡ told → IfSome told (λ past. AreApart new other)
       by-told None is = tt

@@ -19,7 +19,7 @@ use Rattle.suite_rules.proofs.Own.{own-standing}
 use Rattle.suite_rules.proofs.StepLemmas.{may-answer-now}
 use Rattle.suite_answers.specs.declared.answer.Answer.{Answer}
 use Rattle.suite_session.specs.declared.state.State.{State}
-use Rattle.suite_session.specs.declared.state.State.TheVariants.{Looking, Reading, Asking, Claiming, Confirming, Withdrawing, ReadingIntent, Recovering, Moving, Loading, BackingUp, Committing, Installing, Unlocking, Freeing, Watching, Gathering, Answering}
+use Rattle.suite_session.specs.declared.state.State.TheVariants.{Reading, Asking, Claiming, Withdrawing, Moving, BackingUp, Committing, Installing, Unlocking, Freeing, Watching, Gathering, Answering}
 use Rattle.suite_session.specs.declared.session.Phase.{Phase}
 use Rattle.suite_session.specs.declared.session.Phase.TheVariants.{Waiting, Begun, Over, Unbegun}
 use Rattle.suite_session.specs.Runner.{Question, Runner}
@@ -52,24 +52,16 @@ module _ (now : Moment) (runner : Runner) where
 
   -- so it does in each state
   pub state-runs : (state : State) → StandsAs now runner state → MayAnswer now runner.token
-  state-runs (Looking looking) stands = runs-so _ stands.1
   state-runs (Reading seen) stands = runs-so _ stands.2
-  state-runs (Asking asking) stands = runs-so _ stands.1
-  state-runs (Claiming judged) stands = runs-so _ stands.1
-  state-runs (Confirming claimed) stands = runs-so _ stands.1
   state-runs (Withdrawing loser) stands = runs-so _ stands.2
-  state-runs (ReadingIntent keeper) stands = runs-so _ stands.1
-  state-runs (Recovering recovering) stands = runs-so _ stands.1
   state-runs (Moving moving) stands = runs-so _ stands.2
-  state-runs (Loading reader) stands = runs-so _ stands.1
   state-runs (BackingUp walker answer) stands = runs-so _ stands.stands
   state-runs (Committing change answer) stands = runs-so _ stands.stands
   state-runs (Installing walker answer) stands = runs-so _ stands.stands
   state-runs (Unlocking keeper answer) stands = runs-so _ stands.stands
   state-runs (Freeing freeing answer) stands = runs-so _ stands.stands
-  state-runs (Watching watcher) stands = runs-so _ stands.1
-  state-runs (Gathering reading) stands = runs-so _ stands.1
   state-runs (Answering answer) stands = stands.may_answer
+  state-runs state stands = runs-so _ stands.1
 
 -- the folder admits no event of it
 pub state-own : (now : Moment) (runner : Runner) (state : State) → StandsAs now runner state →
@@ -156,8 +148,7 @@ module _ (before now : Moment) (runner : Runner) (others : OthersCame before now
       Came was told → IfSome was P → IfSome told Q
   told-stays None None leads came holds = tt
   told-stays (Some was) (Some past) leads came holds = leads was past came.1 holds
-  told-stays None (Some past) leads came holds = absurd came
-  told-stays (Some was) None leads came holds = absurd came
+  told-stays was told leads came holds = absurd came
 
   -- the folder admits no event of it later either
   still-own : NeverAdmits before.admits runner.token → NeverAdmits now.admits runner.token
@@ -228,16 +219,11 @@ module _ (before now : Moment) (runner : Runner) (others : OthersCame before now
 
   -- so it stands still, in each state
   state-stays : (state : State) → StandsAs before runner state → StandsAs now runner state
-  state-stays (Looking looking) stands = (stands.0, at-stays _ _ stands.1)
   state-stays (Reading seen) stands = (stands.0, stands.1, at-stays _ _ stands.2, stands.3)
   state-stays (Asking asking) stands = (stands.0, at-stays _ _ stands.1, stands.2)
   state-stays (Claiming judged) stands = (stands.0, at-stays _ _ stands.1, stands.2)
-  state-stays (Confirming claimed) stands = (stands.0, at-stays _ _ stands.1)
   state-stays (Withdrawing loser) stands = (stands.0, stands.1, at-stays _ _ stands.2)
-  state-stays (ReadingIntent keeper) stands = (stands.0, at-stays _ _ stands.1)
-  state-stays (Recovering recovering) stands = (stands.0, at-stays _ _ stands.1)
   state-stays (Moving moving) stands = (stands.0, stands.1, at-stays _ _ stands.2)
-  state-stays (Loading reader) stands = (stands.0, at-stays _ _ stands.1)
   state-stays (BackingUp walker answer) stands = record {
     same = stands.same;
     stands = at-stays _ _ stands.stands;
@@ -277,6 +263,7 @@ module _ (before now : Moment) (runner : Runner) (others : OthersCame before now
     left = λ goes_on. told-stays before.told now.told (left-still answer) others.came
         (stands.left goes_on);
   }
+  state-stays state stands = (stands.0, at-stays _ _ stands.1)
 
   -- it came to its state as before
   came-still : (state : State) (was past : Past) →

@@ -27,26 +27,7 @@ use Rattle.suite_session.specs.Stands.{AnswersWith, LeavesWith, IsDecided, IsOut
 -- the answer to a cause has it
 pub given-cause : (tool : Tool) (cause : Cause) → (given_for tool cause).outcome.cause ≡ cause
 given-cause tool Changed = refl
-given-cause tool Same = refl
-given-cause tool (Refused refusal) = refl
-given-cause tool (RefusedLine line refusal) = refl
-given-cause tool (Syntax fault) = refl
-given-cause tool (BatchSyntax line fault) = refl
-given-cause tool (Held token) = refl
-given-cause tool (Gone number) = refl
-given-cause tool (Raced number) = refl
-given-cause tool (Outrun number greater) = refl
-given-cause tool (LockDamaged number) = refl
-given-cause tool Exhausted = refl
-given-cause tool (IntentDamaged part) = refl
-given-cause tool (TooLarge which) = refl
-given-cause tool (NoTable table) = refl
-given-cause tool (BadSetting line) = refl
-given-cause tool (DiskFault stage) = refl
-given-cause tool InputFault = refl
-given-cause tool (OutputFault stage) = refl
-given-cause tool ClockFault = refl
-given-cause tool (Memory stage) = refl
+given-cause tool cause = refl
 
 -- an answer that tells a cause has it, or that there was no memory at its stage
 pub told-cause : (tool : Tool) (cause : Cause) (answer : FinalAnswer) → IsTold tool cause answer →
@@ -104,21 +85,10 @@ plain-says asked answer (Outrun number greater) plain is = is
 plain-says asked answer (LockDamaged number) plain is = is
 plain-says asked answer Exhausted plain is = is
 plain-says asked answer (IntentDamaged part) plain is = is
-plain-says asked answer (TooLarge Input) plain is = absurd plain
 plain-says asked answer (TooLarge (File name)) plain is = is
 plain-says asked answer (DiskFault stage) plain is = is
-plain-says asked answer InputFault plain is = absurd plain
-plain-says asked answer (OutputFault stage) plain is = absurd plain
-plain-says asked answer ClockFault plain is = absurd plain
 plain-says asked answer (Memory stage) plain is = is
-plain-says asked answer Changed plain is = absurd plain
-plain-says asked answer Same plain is = absurd plain
-plain-says asked answer (Refused refusal) plain is = absurd plain
-plain-says asked answer (RefusedLine line refusal) plain is = absurd plain
-plain-says asked answer (Syntax fault) plain is = absurd plain
-plain-says asked answer (BatchSyntax line fault) plain is = absurd plain
-plain-says asked answer (BadSetting line) plain is = absurd plain
-plain-says asked answer (NoTable table) plain is = absurd plain
+plain-says asked answer cause plain is = absurd plain
 
 -- the session met the cause, and shows that it was outrun where that is the cause
 abbrev pub IsMetAs : Runner → History → Cause → Type 0
@@ -205,9 +175,3 @@ pub fault-failed : (stage : CommitStage) (fault : FolderFault) →
     IsOutside (cause_of_fault stage fault) → fault ≡ Failed
 fault-failed stage Failed told = refl
 fault-failed stage NoMemory told = absurd told
-
--- a call that the system failed gives a cause from outside, whatever the stage
-pub fault-outside : (stage : CommitStage) (fault : FolderFault) → fault ≡ Failed →
-    IsOutside (cause_of_fault stage fault)
-fault-outside stage fault is =
-    subst (λ (one : FolderFault). IsOutside (cause_of_fault stage one)) (sym is) tt

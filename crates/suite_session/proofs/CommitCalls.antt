@@ -6,7 +6,7 @@ use Rattle.std.specs.Prelude.{option_map, unwrap_or}
 use Rattle.std.proofs.lemmas.List.{length-map}
 use Rattle.std.proofs.lemmas.List.Elements.{All-cons, All-nil}
 use Rattle.acct_text.specs.declared.Tab.{Tab}
-use Rattle.acct_text.specs.declared.Tab.TheVariants.{Passwd, Shadow, Group, Gshadow, Subuid, Subgid}
+use Rattle.acct_text.specs.declared.Tab.TheVariants.{Passwd}
 use Rattle.acct_text.specs.declared.files.Files.{Files}
 use Rattle.acct_text.specs.Contents.{Contents, same_content}
 use Rattle.acct_text.specs.Files.{table_of}
@@ -53,21 +53,13 @@ use Rattle.suite_session.proofs.TextsLemmas.{backed_then, installed_then, intent
 -- a table read leaves a read fewer
 reads-fewer : (table : Tab) → reads_left (table_after table) < reads_left (Some table)
 reads-fewer Passwd = omega arith
-reads-fewer Shadow = omega arith
-reads-fewer Group = omega arith
-reads-fewer Gshadow = omega arith
-reads-fewer Subuid = omega arith
-reads-fewer Subgid = omega arith
+reads-fewer table = omega arith
 
 -- one is left at least
 reads-some : (next : Option Tab) → 0 < reads_left next
 reads-some None = omega arith
 reads-some (Some Passwd) = omega arith
-reads-some (Some Shadow) = omega arith
-reads-some (Some Group) = omega arith
-reads-some (Some Gshadow) = omega arith
-reads-some (Some Subuid) = omega arith
-reads-some (Some Subgid) = omega arith
+reads-some next = omega arith
 
 -- a walk over the tables that differ has two steps for each of six at most
 pub walk-few : (change : Change) → steps_left (walk_of change) ≤ table_calls

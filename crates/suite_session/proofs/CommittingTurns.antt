@@ -230,8 +230,7 @@ module _ (before now : Moment) (runner : Runner) (answer : FinalAnswer) where
             (earlier-stays runner answer was.history past.history extends.1.0 extends.1.1
             (answered-all was held));
       }
-      committed-due Holds None (Some past) held stands extends = absurd extends
-      committed-due Holds (Some was) None held stands extends = absurd extends
+      committed-due Holds was told held stands extends = absurd extends
 
       -- so the runner installs, and has its answer to give
       pub commits-stands : (walked : Walker) → walked ≡ walk_of change →
@@ -291,8 +290,7 @@ module _ (before now : Moment) (runner : Runner) (answer : FinalAnswer) where
             (told-met runner (cause_of_fault fault.stage fault.fault) given
             past.history says met);
       }
-      unsure-due fault given says None (Some past) held unsure kept met = absurd kept
-      unsure-due fault given says (Some was) None held unsure kept met = absurd kept
+      unsure-due fault given says was told held unsure kept met = absurd kept
 
       pub unsure-stands : (fault : StageFault) (state : State) →
           AnswersWith runner.asked.request.tool (cause_of_fault fault.stage fault.fault) state →
@@ -328,8 +326,7 @@ module _ (before now : Moment) (runner : Runner) (answer : FinalAnswer) where
           (earlier-stays runner answer was.history past.history extends.1.0 extends.1.1
           (subst (IsShown runner answer was.history) stood.changed due.shown));
     }
-    changed-due Holds None (Some past) due stands extends = absurd extends
-    changed-due Holds (Some was) None due stands extends = absurd extends
+    changed-due Holds was told due stands extends = absurd extends
 
     module _ (call : Call)
         (of_turn : IsTurnCall (Runs runner Committed (Installs walker)) call)

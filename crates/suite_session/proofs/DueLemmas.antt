@@ -220,8 +220,7 @@ module _ (runner : Runner) (answer : Answer) where
           (λ reported. absurd (kept-reports was.history number (had _ stood.holds.holds) reported))
           answer.outcome.cause due.shown;
     }
-    due-stays None (Some past) stood stands left extends due = absurd left
-    due-stays (Some was) None stood stands left extends due = absurd left
+    due-stays was told stood stands left extends due = absurd left
 
     -- so the runner has it to give still
     pub gives-stay : At before runner commit Held → At now runner commit Holds →

@@ -18,7 +18,7 @@ use Rattle.acct_outside.specs.Tokens.{free_text}
 use Rattle.intent_file.specs.Intent.{Intended, NewTable, intent_text}
 use Rattle.intent_file.specs.Pieces.{intent_pieces}
 use Rattle.intent_file.proofs.PieceLemmas.{intent-in-pieces}
-use Rattle.suite_rules.proofs.Names.{table-same}
+use Rattle.acct_outside.proofs.NameLemmas.{table-same}
 use Rattle.suite_rules.specs.Knowledge.{Stages}
 use Rattle.suite_rules.specs.Rules.{move_rule, moves_free}
 use Rattle.suite_rules.specs.Outcomes.{stages, stages_more}

@@ -17,7 +17,7 @@ use Rattle.memory_folder.specs.Events.{actual_effect, effect_in}
 use Rattle.acct_outside.specs.Folder.{Folder}
 use Rattle.acct_outside.specs.Gives.{GivesResult}
 use Rattle.acct_outside.specs.History.{Event, History}
-use Rattle.acct_outside.specs.Life.{Life, MayCall, ended, faulted, is_running, life, life_step, running, runs_in, unbegun}
+use Rattle.acct_outside.specs.Life.{Life, MayCall, ended, is_running, life, life_step, running, runs_in, unbegun}
 use Rattle.memory_folder.specs.Logged.{folder_after, with_event}
 use Rattle.memory_folder.specs.Memory.{Runs, moment_of, past_of}
 use Rattle.acct_outside.specs.Moment.{Past}
@@ -31,10 +31,10 @@ use Rattle.suite_rules.specs.Standing.{standing}
 use Rattle.lock_steps.specs.NextCall.{IsCallWhere}
 use Rattle.suite_session.specs.declared.state.State.{State}
 use Rattle.suite_session.specs.declared.session.Phase.{Phase}
-use Rattle.suite_session.specs.declared.session.Phase.TheVariants.{Waiting, Begun, Over, Unbegun}
-use Rattle.suite_session.specs.Runner.{IsRead, Question, Runner}
+use Rattle.suite_session.specs.declared.session.Phase.TheVariants.{Begun}
+use Rattle.suite_session.specs.Runner.{IsRead, Runner}
 use Rattle.suite_session.specs.Belongs.{IsOnItsWay, OthersCame, of_others}
-use Rattle.suite_session.specs.Dying.{DiedIn, SessionDies}
+use Rattle.suite_session.specs.Dying.{DiedIn}
 use Rattle.suite_session.specs.NextCall.{HasLock, IsReady, state_call}
 use Rattle.suite_session.specs.Session.{token_of}
 use Rattle.suite_session.specs.Stands.{StaysOurs}
@@ -86,11 +86,9 @@ died-given folder history token named effect later = tt
 died-ends : (call : Call) (effect : Effect) (lived : Life) → runs_in lived ≡ true →
     runs_in (life_step call (died effect) lived) ≡ false
 died-ends (answers status) effect running is = refl
-died-ends call effect running is = refl
-died-ends (answers status) effect faulted is = refl
-died-ends call effect faulted is = refl
 died-ends call effect unbegun is = cc
 died-ends call effect ended is = cc
+died-ends call effect lived is = refl
 
 module _ (before : MemoryFolder) (runner : Runner) (state : State)
     (way : IsOnItsWay (moment_of before) runner state) where
@@ -251,16 +249,6 @@ module _ (before : MemoryFolder) (runner : Runner) (state : State)
           died-others before runner state way named is_call now effect came
       by-result (Err fault) came same = still-others before now same (Begun runner state)
           (Begun runner state) (λ token is. is)
-
--- a session that has no call left stays, and so does the folder
-pub none-dies : (past : Past) (effect : CallEffect) (session : Phase) →
-    ((asked : Question) → session ≡ Waiting asked → ⊥) →
-    ((runner : Runner) (state : State) → session ≡ Begun runner state → ⊥) →
-    SessionDies past past effect session session
-none-dies past effect (Waiting asked) begun going = absurd (begun asked refl)
-none-dies past effect (Begun runner state) begun going = absurd (going runner state refl)
-none-dies past effect (Over runner answer) begun going = (refl, refl)
-none-dies past effect (Unbegun tool answer) begun going = (refl, refl)
 
 -- what always holds, holds where there was no memory
 pub on-err : {A E : Type 0} (result : Result A E) (P : Type 0) → P → OnErr result P

@@ -7,7 +7,7 @@ use Rattle.std.specs.List.{AllByRecursion}
 use Rattle.acct_outside.specs.declared.CommitStage.{CommitStage}
 use Rattle.acct_outside.specs.declared.Name.{Name}
 use Rattle.acct_outside.specs.Tokens.{Token}
-use Rattle.acct_outside.specs.Calls.{Answer as CallAnswer, Call, CallResult, Command, answers, begins, creates, died, done, failed, lists, reads, renames}
+use Rattle.acct_outside.specs.Calls.{Answer as CallAnswer, Call, CallResult, Command, answers, begins, creates, done, lists, reads, renames}
 use Rattle.acct_outside.specs.History.{Event, History, is_of, own_events}
 use Rattle.acct_outside.specs.Moment.{Past, Moment}
 use Rattle.acct_outside.specs.Others.{ByOthers}
@@ -42,8 +42,6 @@ use Rattle.suite_session.proofs.MetLemmas.{told-as}
 free-step : (call : Call) (result : CallResult (CallAnswer call)) → IsFreeCall call →
     own_step call result lock_uncalled ≡ lock_uncalled
 free-step lists (done numbers) free = refl
-free-step lists (failed effect) free = refl
-free-step lists (died effect) free = refl
 free-step (creates number) result free = absurd free
 free-step (renames from to) result free = absurd free
 free-step call result free = refl
@@ -157,18 +155,11 @@ stands-free now runner (Unlocking keeper answer) stands =
 stands-free now runner (Freeing freeing answer) stands =
     held-unfree now runner (Freeing freeing answer) _ _
     (λ stood staged uncalled. absurd (cc (sym staged.locks.owns ∙ uncalled))) stands.stands
-stands-free now runner (Looking looking) stands =
-    told-as now.told (λ past stood report free. tt) stands.1
 stands-free now runner (Reading seen) stands =
     told-as now.told (λ past stood report free. tt) stands.2
-stands-free now runner (Asking asking) stands =
-    told-as now.told (λ past stood report free. tt) stands.1
-stands-free now runner (Watching watcher) stands =
-    told-as now.told (λ past stood report free. tt) stands.1
-stands-free now runner (Gathering reading) stands =
-    told-as now.told (λ past stood report free. tt) stands.1
 stands-free now runner (Answering answer) stands =
     told-as now.told (λ past may report free. tt) stands.may_answer
+stands-free now runner state stands = told-as now.told (λ past stood report free. tt) stands.1
 
 -- the call of such a state changes no name
 gathering-free : (reading : Gatherer) → IsFreeCall (gathering_call reading)
@@ -193,11 +184,6 @@ state-free state free = absurd free
 -- a report has no more left than any command in its state
 left-most : (state : State) → report_left state ≤ calls_left state
 left-most (Looking looking) = omega arith
-left-most (Reading seen) = omega arith
-left-most (Asking asking) = omega arith
-left-most (Watching watcher) = omega arith
-left-most (Gathering reading) = omega arith
-left-most (Answering answer) = omega arith
 left-most state = omega arith
 
 -- by how much, before the second listing of a command

@@ -133,8 +133,7 @@ tells-grow admits token call (Err Failed) (Some before) (Some now) due tells = (
 )
 tells-grow admits token call (Err NoMemory) (Some before) (Some now) due tells =
     (tells.0, others-grow admits token before.history 1 now.history tells.1)
-tells-grow admits token call answer None (Some now) due tells = absurd tells
-tells-grow admits token call answer (Some before) None due tells = absurd tells
+tells-grow admits token call answer before now due tells = absurd tells
 
 -- so it extends the history
 pub grew-extends : (admits : Admission) (token : Token) (most : ℕ) (before now : Option Past) →
@@ -142,8 +141,7 @@ pub grew-extends : (admits : Admission) (token : Token) (most : ℕ) (before now
 grew-extends admits token most None None grew = tt
 grew-extends admits token most (Some before) (Some now) grew =
     (grew.0, grows-extends admits token before.history most now.history grew.1)
-grew-extends admits token most None (Some now) grew = absurd grew
-grew-extends admits token most (Some before) None grew = absurd grew
+grew-extends admits token most before now grew = absurd grew
 
 -- nothing new is none of the session's
 pub grew-nothing : (admits : Admission) (token : Token) (was : Option Past) →
@@ -160,8 +158,7 @@ grew-none admits token other (Some before) (Some now) grew = (
   others-grow admits other before.history 0 now.history
       (none-grows admits token before.history 0 now.history refl grew.1),
 )
-grew-none admits token other None (Some now) grew = absurd grew
-grew-none admits token other (Some before) None grew = absurd grew
+grew-none admits token other before now grew = absurd grew
 
 -- what grew twice, while the folder admitted no more the second time, grew by both
 pub grew-then : (admits fewer : Admission) (token : Token) (made most : ℕ)

@@ -1,15 +1,11 @@
 -- Claim: a step that can't be refused has its next state where its call was done (`leads-on`), and
--- else a fault with its stage (`leads-stage`), which is told as a fault of the folder only where
--- that failed (`leads-failed`).
+-- else a fault with its stage (`leads-stage`, `leads-failed`).
 use Rattle.std.proofs.Common.{◌≡◌, ap, Result, Ok, Err}
 use Rattle.acct_outside.specs.declared.CommitStage.{CommitStage}
 use Rattle.acct_outside.specs.declared.FolderFault.{FolderFault}
 use Rattle.acct_outside.specs.declared.FolderFault.TheVariants.{Failed}
 use Rattle.acct_outside.specs.declared.StageFault.{StageFault}
 use Rattle.suite_rules.specs.Outcomes.{LeadsTo, at_stage}
-use Rattle.suite_session.specs.Locking.{cause_of_fault}
-use Rattle.suite_session.specs.Stands.{IsOutside}
-use Rattle.suite_session.proofs.CauseLemmas.{fault-failed}
 
 -- a done one has the next state
 pub leads-on : {A State : Type 0} (next : State) (staged : FolderFault → StageFault)
@@ -32,11 +28,10 @@ pub leads-stage : {A State : Type 0} (next : State) (stage : CommitStage)
 leads-stage next stage (Err came) fault shown = ap (λ (one : StageFault). one.stage) shown
 leads-stage next stage (Ok answer) fault shown = absurd shown
 
--- it is told as a fault of the folder only where that failed
+-- where the folder failed, it tells that with the stage
 pub leads-failed : {A State : Type 0} (next : State) (stage : CommitStage)
     (answer : Result A FolderFault) (fault : StageFault) →
-    LeadsTo next (at_stage stage) answer (Err fault) →
-    IsOutside (cause_of_fault fault.stage fault.fault) → fault ≡ at_stage stage Failed
-leads-failed next stage answer fault shown told =
-    let failed = fault-failed fault.stage fault.fault told in
+    LeadsTo next (at_stage stage) answer (Err fault) → fault.fault ≡ Failed →
+    fault ≡ at_stage stage Failed
+leads-failed next stage answer fault shown failed =
     λ i. record { fault = failed i; stage = leads-stage next stage answer fault shown i }

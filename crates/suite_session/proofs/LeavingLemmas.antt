@@ -61,8 +61,7 @@ module _ (token : Token) (cause : Cause) where
   clean-stays None None kept clean = tt
   clean-stays (Some was) (Some past) kept clean =
       clean-same was past (ap (λ (part : Work). part.knows) kept.1) clean
-  clean-stays None (Some past) kept clean = absurd kept
-  clean-stays (Some was) None kept clean = absurd kept
+  clean-stays was told kept clean = absurd kept
 
   -- with a cause that no tool decided it need not know it
   pub clean-else : (IsDecided cause → ⊥) → (told : Option Past) →

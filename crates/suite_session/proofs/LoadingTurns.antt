@@ -97,8 +97,7 @@ load-ends tool reader (Ok found) end state shown ends =
 load-ends tool reader (Err fault) (Fault came) state shown ends =
     fault-ends tool came.stage came.fault state ends (reads (next_name reader.next)) (Err fault)
     (HasRead reader) (load-came reader (Err fault) came shown)
-load-ends tool reader (Err fault) (TooLarge name kept) state shown ends = absurd shown
-load-ends tool reader (Err fault) (NoTable table kept) state shown ends = absurd shown
+load-ends tool reader answer end state shown ends = absurd shown
 
 -- ---- The standing after a read
 

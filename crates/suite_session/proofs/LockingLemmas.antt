@@ -13,8 +13,8 @@ use Rattle.lock_steps.specs.States.{Lister, Asker, Maker, Overtaken, Kept}
 use Rattle.lock_steps.specs.declared.judging.Told.TheVariants.{Judged, Ask}
 use Rattle.lock_steps.specs.declared.claiming.Confirmed.TheVariants.{Keeper, Loser}
 use Rattle.acct_outside.specs.declared.CommitStage.TheVariants.{Before}
-use Rattle.acct_outside.specs.declared.FolderFault.TheVariants.{Failed, Memory}
-use Rattle.lock_steps.specs.declared.LockRefusal.TheVariants.{Held, Gone, Raced, Outrun, Damaged, Exhausted}
+use Rattle.acct_outside.specs.declared.FolderFault.TheVariants.{Failed}
+use Rattle.lock_steps.specs.declared.LockRefusal.TheVariants.{Held}
 use Rattle.lock_steps.specs.declared.LockEnd.{LockEnd}
 use Rattle.lock_steps.specs.declared.LockEnd.TheVariants.{Refused, Folder}
 use Rattle.lock_steps.specs.Outcomes.{folder_failed, Looks, Reads, Asks, Claims, Confirms}
@@ -26,35 +26,20 @@ use Rattle.suite_session.proofs.CauseLemmas.{IsPlain}
 -- it comes before the commit
 pub end-stage : (end : LockEnd) → stage_of (cause_of_end end) ≡ Before
 end-stage (Refused (Held token)) = refl
-end-stage (Refused (Gone number)) = refl
-end-stage (Refused (Raced number)) = refl
-end-stage (Refused (Outrun number greater)) = refl
-end-stage (Refused (Damaged number)) = refl
-end-stage (Refused Exhausted) = refl
 end-stage (Folder Failed) = refl
-end-stage (Folder Memory) = refl
+end-stage end = refl
 
 -- it is no tool's answer
 pub end-plain : (end : LockEnd) → IsPlain (cause_of_end end)
 end-plain (Refused (Held token)) = tt
-end-plain (Refused (Gone number)) = tt
-end-plain (Refused (Raced number)) = tt
-end-plain (Refused (Outrun number greater)) = tt
-end-plain (Refused (Damaged number)) = tt
-end-plain (Refused Exhausted) = tt
 end-plain (Folder Failed) = tt
-end-plain (Folder Memory) = tt
+end-plain end = tt
 
 -- it is a fault of the folder only where that failed
 pub end-failed : (end : LockEnd) → IsOutside (cause_of_end end) → end ≡ folder_failed
 end-failed (Folder Failed) fault = refl
 end-failed (Refused (Held token)) fault = absurd fault
-end-failed (Refused (Gone number)) fault = absurd fault
-end-failed (Refused (Raced number)) fault = absurd fault
-end-failed (Refused (Outrun number greater)) fault = absurd fault
-end-failed (Refused (Damaged number)) fault = absurd fault
-end-failed (Refused Exhausted) fault = absurd fault
-end-failed (Folder Memory) fault = absurd fault
+end-failed end fault = absurd fault
 
 -- ---- A step keeps the token
 

@@ -5,7 +5,6 @@ use Rattle.acct_outside.specs.Names.{greatest_lock}
 use Rattle.acct_outside.specs.Tokens.{Token}
 use Rattle.acct_outside.specs.declared.Name.TheVariants.{Lock}
 use Rattle.acct_outside.specs.Calls.{lists, reads}
-use Rattle.suite_rules.specs.Standing.{Standing}
 use Rattle.suite_rules.specs.Steps.{StandsIn, MakesCall}
 use Rattle.suite_rules.proofs.StepLemmas.{stands-weaker}
 use Rattle.lock_steps.specs.States.{Lister, Maker}
@@ -24,19 +23,9 @@ use Rattle.acct_outside.specs.declared.CommitStage.TheVariants.{Before}
 use Rattle.suite_session.specs.Moment.{At}
 use Rattle.suite_session.specs.Locking.{after_judging, after_look, after_read, after_listing}
 use Rattle.suite_session.specs.Stands.{StandsAs, TellsOutside}
+use Rattle.lock_steps.proofs.StandsLemmas.{none-judged}
 use Rattle.suite_session.proofs.TurnLemmas.{goes-on}
 use Rattle.suite_session.proofs.LockingLemmas.{looks-last, looks-token, reads-number, reads-judged, reads-asking, confirms-keeper, confirms-less, confirms-loser}
-
--- a session that looked and found no lock may make one
-none-judged : (seen : Lister) → seen.greatest ≡ 0 → (stood : Standing) → HasLooked seen stood →
-    HasJudged seen stood
-none-judged seen none stood looked = record {
-  owns = looked.owns;
-  listing = looked.listing;
-  listed = looked.listed;
-  is_greatest = looked.is_greatest;
-  is_such = looked.is_such none;
-}
 
 module _ (before now : Moment) (runner : Runner) where
   -- once the greatest lock is judged a report watches, and another command makes a lock

@@ -297,12 +297,8 @@ behind-none : (gathered : Gathered) (look : Look) →
     length (filter (λ name. looks_at (reads name) look) (filter (awaits gathered) inputs)) ≡ 0
 behind-none gathered at_locks =
     none-behind (λ name. looks_at (reads name) at_locks) (awaits gathered) inputs refl
-behind-none gathered at_text =
-    none-behind (λ name. looks_at (reads name) at_text) (awaits gathered) inputs refl
-behind-none gathered at_holder =
-    none-behind (λ name. looks_at (reads name) at_holder) (awaits gathered) inputs refl
-behind-none gathered at_intent =
-    none-behind (λ name. looks_at (reads name) at_intent) (awaits gathered) inputs refl
+behind-none gathered look =
+    none-behind (λ name. looks_at (reads name) look) (awaits gathered) inputs refl
 
 -- the read of the intent leads to the reads behind it
 pub watches-less : (watcher : Lister) (wanted : List Tab) (answer : Result Found FolderFault)
@@ -320,9 +316,7 @@ watches-less watcher wanted (Ok found) reading shown look =
         gathering_looks reading one + looks_by (reads Intent) one
         ≤ looks_left (Watching watcher) one
     by-look at_locks none = omega (arith, none)
-    by-look at_text none = omega (arith, none)
-    by-look at_holder none = omega (arith, none)
-    by-look at_intent none = omega (arith, none)
+    by-look one none = omega (arith, none)
 watches-less watcher wanted (Err fault) reading shown look = absurd shown
 
 -- ---- The way out
@@ -331,22 +325,15 @@ watches-less watcher wanted (Err fault) reading shown look = absurd shown
 due-few : (old : State) → GathersNone old → (look : Look) →
     nat_le (state_looks old look) (looks_left old look) ≡ true
 due-few (Looking looking) none at_locks = refl
-due-few (Looking looking) none look = refl
 due-few (Reading seen) none at_text = refl
-due-few (Reading seen) none look = refl
 due-few (Asking asking) none at_text = refl
 due-few (Asking asking) none at_holder = refl
-due-few (Asking asking) none look = refl
 due-few (Confirming claimed) none at_locks = refl
-due-few (Confirming claimed) none look = refl
 due-few (ReadingIntent keeper) none at_intent = refl
-due-few (ReadingIntent keeper) none look = refl
 due-few (Watching watcher) none at_locks = refl
 due-few (Watching watcher) none at_intent = refl
-due-few (Watching watcher) none look = refl
 due-few (Gathering reading) none look = absurd none
 due-few (Claiming judged) none at_locks = refl
-due-few (Claiming judged) none look = refl
 due-few state none look = refl
 
 -- a number that passes the test is at most that

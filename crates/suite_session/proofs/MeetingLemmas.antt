@@ -278,9 +278,7 @@ module _ (tool : Tool) (state : State) where
   read-on seen (Ok (found_bytes text)) (Ask asking) shown = λ stood held met shows. absurd
       (free-none seen.greatest text
       (λ damage. damage.not_held asking.asked shown.0) stood met shows)
-  read-on seen (Ok found_absent) told shown = absurd shown
-  read-on seen (Ok found_too_large) told shown = absurd shown
-  read-on seen (Err fault) told shown = absurd shown
+  read-on seen answer told shown = absurd shown
 
   -- one of a lock that is gone
   gone-tells : (number gone : ℕ) → gone ≡ number → AnswersWith tool (Gone gone) state →

@@ -43,18 +43,14 @@ use Rattle.suite_session.proofs.MetLemmas.{damaged-met, large-met}
 seen-keeper : (keeper : Kept) (answer : Result Found FolderFault) (kept : Kept) →
     FindsIntent keeper answer (Ok (Clean kept)) → kept.token ≡ keeper.token
 seen-keeper keeper (Ok found_absent) kept shown = ap (λ (one : Kept). one.token) shown
-seen-keeper keeper (Ok (found_bytes bytes)) kept shown = absurd shown
-seen-keeper keeper (Ok found_too_large) kept shown = absurd shown
-seen-keeper keeper (Err fault) kept shown = absurd shown
+seen-keeper keeper answer kept shown = absurd shown
 
 -- of one that recovers
 seen-recoverer : (keeper : Kept) (answer : Result Found FolderFault) (recovering : Recoverer) →
     FindsIntent keeper answer (Ok (Listed recovering)) → recovering.keeper.token ≡ keeper.token
 seen-recoverer keeper (Ok (found_bytes bytes)) recovering shown =
     ap (λ (one : Recoverer). one.keeper.token) shown.is
-seen-recoverer keeper (Ok found_absent) recovering shown = absurd shown
-seen-recoverer keeper (Ok found_too_large) recovering shown = absurd shown
-seen-recoverer keeper (Err fault) recovering shown = absurd shown
+seen-recoverer keeper answer recovering shown = absurd shown
 
 -- a fault of the read comes before the commit
 fault-before : (keeper : Kept) (answer : Result Found FolderFault) (fault : StageFault) →
@@ -70,17 +66,13 @@ damaged-keeper : (keeper : Kept) (answer : Result Found FolderFault) (part : ℕ
     FindsIntent keeper answer (Err (Damaged part kept)) → kept.token ≡ keeper.token
 damaged-keeper keeper (Ok (found_bytes bytes)) part kept shown =
     ap (λ (one : Kept). one.token) shown.1
-damaged-keeper keeper (Ok found_absent) part kept shown = absurd shown
-damaged-keeper keeper (Ok found_too_large) part kept shown = absurd shown
-damaged-keeper keeper (Err fault) part kept shown = absurd shown
+damaged-keeper keeper answer part kept shown = absurd shown
 
 -- and so does the refusal of an intent that is too large
 large-keeper : (keeper : Kept) (answer : Result Found FolderFault) (kept : Kept) →
     FindsIntent keeper answer (Err (TooLarge kept)) → kept.token ≡ keeper.token
 large-keeper keeper (Ok found_too_large) kept shown = ap (λ (one : Kept). one.token) shown
-large-keeper keeper (Ok found_absent) kept shown = absurd shown
-large-keeper keeper (Ok (found_bytes bytes)) kept shown = absurd shown
-large-keeper keeper (Err fault) kept shown = absurd shown
+large-keeper keeper answer kept shown = absurd shown
 
 -- a clean keeper that hasn't called its commit stands before its first read of a table
 pub starts-loading : (now : Moment) (runner : Runner) (keeper : Kept) →

@@ -147,9 +147,7 @@ module _ (runner : Runner) (state : State) (reading : Gatherer) where
       IsToTell state (IsTooLarge (File Intent))
   large-told TooLarge told answers =
       answers-tell tool (IsTooLarge (File Intent)) state (answers refl)
-  large-told Absent told answers = absurd told
-  large-told Listed told answers = absurd told
-  large-told (Damaged part) told answers = absurd told
+  large-told intent told answers = absurd told
 
   module _ (report : Report) (reports : ReportsTo runner report state) where
     -- what the state answers with where the intent doesn't read

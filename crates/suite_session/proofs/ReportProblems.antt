@@ -5,7 +5,7 @@
 -- report finds (`table-by`); the first of a list of problems is that of the first table that has one
 -- (`first-of`).
 use Rattle.std.proofs.Common.{◌≡◌, refl, sym, ap, subst, ◌∙◌, ◌≤◌, ◌&&◌, ◌||◌, Bool, true, false, cond, nat_lt, if◌then◌else◌, List, [], ◌∷◌, ◌++◌, length, map, Option, Some, None, true≢false}
-use Rattle.std.specs.Prelude.{find, is_none, is_some, IsSome, unwrap_or}
+use Rattle.std.specs.Prelude.{find, is_none, is_some, unwrap_or}
 use Rattle.std.specs.List.{AllByRecursion}
 use Rattle.std.specs.Option.{option_and_then}
 use Rattle.std.proofs.lemmas.Bool.{le-leb, ltb-true}
@@ -38,11 +38,7 @@ use Rattle.suite_session.proofs.ProblemLemmas.{IsLarge, large-settings, large-ta
 pub files-have : (contents : Contents) (table : Tab) →
     table_of (files_of contents) table ≡ contents table
 files-have contents Passwd = refl
-files-have contents Shadow = refl
-files-have contents Group = refl
-files-have contents Gshadow = refl
-files-have contents Subuid = refl
-files-have contents Subgid = refl
+files-have contents table = refl
 
 -- ---- What was found
 
@@ -135,8 +131,7 @@ content_of found = None
 same-listed : (found : Found) (table : Tab) →
     listed_in (listed_by (content_of found)) table ≡ listed_in (listed_at found) table
 same-listed found_absent table = refl
-same-listed (found_bytes bytes) table = refl
-same-listed found_too_large table = refl
+same-listed found table = refl
 
 -- one that is absent or reads was found whole
 readable-whole : (found : Found) (intent : IntentFound) → TellsIntent found intent →
@@ -157,15 +152,9 @@ readable-reads (found_bytes kept) Listed told readable bytes is =
     subst (λ (one : Bytes). (intended : Intended) × ReadsIntent one intended) same told
 readable-reads (found_bytes kept) (Damaged part) told readable bytes is =
     absurd (true≢false (sym readable))
-readable-reads (found_bytes kept) TooLarge told readable bytes is = absurd told
-readable-reads (found_bytes kept) Absent told readable bytes is = absurd told
 readable-reads found_absent intent told readable bytes is = absurd (cc is)
 readable-reads found_too_large intent told readable bytes is = absurd (cc is)
-
--- what is kept whole was found whole
-kept-whole : (content : Option Bytes) → whole_content (found_as false content) ≡ Some content
-kept-whole None = refl
-kept-whole (Some bytes) = refl
+readable-reads found intent told readable bytes is = absurd told
 
 -- ---- No problem
 
@@ -220,23 +209,6 @@ none-usable gathered none = by-found (find (is_bad gathered) all_tables) refl no
 fine-small : (large rest : Bool) → (large || rest) ≡ false → large ≡ false
 fine-small false rest is = refl
 fine-small true rest is = absurd (true≢false is)
-
--- a file that is wanted and has no problem is there
-fine-stands : (large : Bool) (content : Option Bytes) →
-    (large || (true && is_none content)) ≡ false → IsSome content
-fine-stands false (Some bytes) is = refl
-fine-stands false None is = absurd (true≢false is)
-fine-stands true content is = absurd (true≢false is)
-
--- of usable files passwd is there
-pub passwd-stands : (gathered : Gathered) → IsUsable gathered → IsSome gathered.files.passwd
-passwd-stands gathered usable =
-    fine-stands (is_large gathered (Table Passwd)) gathered.files.passwd (usable.tables Passwd)
-
--- and so is group
-pub group-stands : (gathered : Gathered) → IsUsable gathered → IsSome gathered.files.group
-group-stands gathered usable =
-    fine-stands (is_large gathered (Table Group)) gathered.files.group (usable.tables Group)
 
 -- ---- Files as they were shown
 

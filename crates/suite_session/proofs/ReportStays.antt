@@ -12,7 +12,7 @@ use Rattle.account_model.specs.Tables.{Script, no_edits, files_after}
 use Rattle.account_model.proofs.NoEdits.{files-stay}
 use Rattle.account_model.specs.declared.given.Given.{Given}
 use Rattle.account_model.specs.declared.tool.Tool.{Tool}
-use Rattle.account_model.specs.declared.tool.Tool.TheVariants.{Useradd, Usermod, Userdel, Groupadd, Groupmod, Groupdel, Gpasswd, Chage, Chpasswd, Pwck, Grpck, Getsubids, Batch}
+use Rattle.account_model.specs.declared.tool.Tool.TheVariants.{Chage, Pwck, Grpck, Getsubids, Batch}
 use Rattle.account_model.specs.BatchLines.{line_requests}
 use Rattle.account_model.specs.Options.{Word, is_given, not_both, some_of}
 use Rattle.account_model.specs.Request.{Request, has_option, is_report, reports as is_reporting}
@@ -150,15 +150,7 @@ tool-unedited Grpck request input day files settings unbroken is =
 tool-unedited Getsubids request input day files settings unbroken is = refl
 tool-unedited Chage request input day files settings unbroken is =
     by-listing (has_option (codes "l") request) _ _ is refl
-tool-unedited Useradd request input day files settings unbroken is = absurd (true≢false (sym is))
-tool-unedited Usermod request input day files settings unbroken is = absurd (true≢false (sym is))
-tool-unedited Userdel request input day files settings unbroken is = absurd (true≢false (sym is))
-tool-unedited Groupadd request input day files settings unbroken is = absurd (true≢false (sym is))
-tool-unedited Groupmod request input day files settings unbroken is = absurd (true≢false (sym is))
-tool-unedited Groupdel request input day files settings unbroken is = absurd (true≢false (sym is))
-tool-unedited Gpasswd request input day files settings unbroken is = absurd (true≢false (sym is))
-tool-unedited Chpasswd request input day files settings unbroken is = absurd (true≢false (sym is))
-tool-unedited Batch request input day files settings unbroken is = absurd (true≢false (sym is))
+tool-unedited tool request input day files settings unbroken is = absurd (true≢false (sym is))
 
 -- a batch is no report
 report-single : (tool : Tool) (request : Request) → is_reporting tool request ≡ true →

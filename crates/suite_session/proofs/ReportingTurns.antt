@@ -19,7 +19,7 @@ use Rattle.acct_outside.specs.Moment.{Moment}
 use Rattle.account_model.specs.declared.tool.Tool.{Tool}
 use Rattle.account_model.specs.Request.{is_report}
 use Rattle.account_model.specs.SeenFiles.{read_tables, seen_files}
-use Rattle.account_model.specs.Answer.{AnswerCause, FileProblem, TableTooLarge, SettingsTooLarge, TableAbsent, BadSettingAt, Unusable, Refused, RefusedLine, Same, Changed, files_problem}
+use Rattle.account_model.specs.Answer.{AnswerCause, FileProblem, TableTooLarge, SettingsTooLarge, Unusable, Changed, files_problem}
 use Rattle.suite_rules.specs.OwnLock.{kept_number}
 use Rattle.suite_rules.specs.Standing.{Standing}
 use Rattle.suite_rules.specs.Steps.{MakesCall, StandsIn}
@@ -64,29 +64,21 @@ reported-shown runner answer history (Unusable (TableTooLarge table)) stays repo
     inl (inr reported)
 reported-shown runner answer history (Unusable SettingsTooLarge) stays reported =
     inl (inr reported)
-reported-shown runner answer history (Unusable (TableAbsent table)) stays reported = inr reported
-reported-shown runner answer history (Unusable (BadSettingAt line)) stays reported = inr reported
-reported-shown runner answer history (Refused refusal) stays reported = inr reported
-reported-shown runner answer history (RefusedLine line refusal) stays reported = inr reported
-reported-shown runner answer history Same stays reported = inr reported
 reported-shown runner answer history (Changed files) stays reported =
     absurd (true≢false stays)
+reported-shown runner answer history cause stays reported = inr reported
 
 -- the answer to a problem of the files comes before the commit
 problem-stage : (problem : FileProblem) → stage_of (cause_of_problem problem) ≡ Before
 problem-stage (TableTooLarge table) = refl
-problem-stage SettingsTooLarge = refl
-problem-stage (TableAbsent table) = refl
-problem-stage (BadSettingAt line) = refl
+problem-stage problem = refl
 
 -- it says what tells its cause
 problem-says : (runner : Runner) (problem : FileProblem) (answer : FinalAnswer) →
     answer ≡ given_for runner.asked.request.tool (cause_of_problem problem) →
     Says runner.asked answer (cause_of_problem problem)
 problem-says runner (TableTooLarge table) answer is = is
-problem-says runner SettingsTooLarge answer is = is
-problem-says runner (TableAbsent table) answer is = is
-problem-says runner (BadSettingAt line) answer is = is
+problem-says runner problem answer is = is
 
 module _ (runner : Runner) (report : Report) (is_one : is_report runner.asked.request ≡ true)
     (reads : report.wanted ≡ read_tables runner.asked.request)
@@ -275,9 +267,7 @@ module _ (runner : Runner) where
     where
       problem-quiet : (one : FileProblem) → IsOutside (cause_of_problem one) → ⊥
       problem-quiet (TableTooLarge table) outside = outside
-      problem-quiet SettingsTooLarge outside = outside
-      problem-quiet (TableAbsent table) outside = outside
-      problem-quiet (BadSettingAt line) outside = outside
+      problem-quiet one outside = outside
   files-quiet report None (Answering answer) (inl (is_answer, stays)) fault =
       answer-quiet runner.asked report.gathered.files report.gathered.defs answer is_answer fault
   files-quiet report None (Answering answer) (inr none) fault =

@@ -12,8 +12,8 @@ use Rattle.acct_outside.specs.declared.streams.SinkFault.{SinkFault}
 use Rattle.acct_outside.specs.declared.streams.SinkFault.TheVariants.{Failed, Memory as NoMemory}
 use Rattle.acct_outside.specs.History.{History}
 use Rattle.account_model.specs.declared.tool.Tool.{Tool}
-use Rattle.account_model.specs.declared.tool.Tool.TheVariants.{Useradd, Usermod, Userdel, Groupadd, Groupmod, Groupdel, Gpasswd, Chage, Chpasswd, Pwck, Grpck, Getsubids, Batch}
-use Rattle.account_model.specs.Answer.{AnswerCause, Unusable, Refused as ModelRefused, RefusedLine as ModelRefusedLine, Same as ModelSame, Changed as ModelChanged}
+use Rattle.account_model.specs.declared.tool.Tool.TheVariants.{Useradd}
+use Rattle.account_model.specs.Answer.{AnswerCause, Changed as ModelChanged}
 use Rattle.account_model.specs.SeenFiles.{seen_files}
 use Rattle.account_model.specs.Statuses.{file_status, lock_status, memory_status, output_fault_status, update_status}
 use Rattle.suite_rules.specs.Deeds.{SuiteDeeds}
@@ -22,7 +22,7 @@ use Rattle.suite_rules.specs.Standing.{Standing, standing}
 use Rattle.suite_rules.specs.Rules.{AnswerRule, answers_refusal, answers_changed, answers_same, answers_shown}
 use Rattle.suite_answers.specs.declared.cause.Which.TheVariants.{Input, File}
 use Rattle.suite_answers.specs.declared.cause.Cause.{Cause}
-use Rattle.suite_answers.specs.declared.cause.Cause.TheVariants.{Changed, Same, Refused, RefusedLine, Syntax, BatchSyntax, Held, Gone, Raced, Outrun, LockDamaged, Exhausted, IntentDamaged, TooLarge, NoTable, BadSetting, DiskFault, InputFault, OutputFault, ClockFault, Memory}
+use Rattle.suite_answers.specs.declared.cause.Cause.TheVariants.{Changed, Same, Refused, RefusedLine, Syntax, BatchSyntax, IntentDamaged, TooLarge, NoTable, BadSetting, DiskFault, InputFault, OutputFault, ClockFault, Memory}
 use Rattle.suite_answers.specs.declared.answer.Answer.{Answer}
 use Rattle.suite_answers.specs.Reasons.{stage_of}
 use Rattle.suite_session.specs.Runner.{IsRead, Runner}
@@ -36,61 +36,25 @@ use Rattle.suite_session.specs.Reports.{AnswersShown}
 -- that of a lock
 lock-some : (tool : Tool) → (lock_status tool == 0) ≡ false
 lock-some Useradd = refl
-lock-some Usermod = refl
-lock-some Userdel = refl
-lock-some Groupadd = refl
-lock-some Groupmod = refl
-lock-some Groupdel = refl
-lock-some Gpasswd = refl
-lock-some Chage = refl
-lock-some Chpasswd = refl
-lock-some Pwck = refl
-lock-some Grpck = refl
-lock-some Getsubids = refl
-lock-some Batch = refl
+lock-some tool = refl
 
 -- of a folder that can't be changed
 update-some : (tool : Tool) → (update_status tool == 0) ≡ false
 update-some Useradd = refl
-update-some Usermod = refl
-update-some Userdel = refl
-update-some Groupadd = refl
-update-some Groupmod = refl
-update-some Groupdel = refl
-update-some Gpasswd = refl
-update-some Chage = refl
-update-some Chpasswd = refl
-update-some Pwck = refl
-update-some Grpck = refl
-update-some Getsubids = refl
-update-some Batch = refl
+update-some tool = refl
 
 -- of a file that can't be used
 pub file-some : (tool : Tool) → (file_status tool == 0) ≡ false
 file-some Useradd = refl
-file-some Usermod = refl
-file-some Userdel = refl
-file-some Groupadd = refl
-file-some Groupmod = refl
-file-some Groupdel = refl
-file-some Gpasswd = refl
-file-some Chage = refl
-file-some Chpasswd = refl
-file-some Pwck = refl
-file-some Grpck = refl
-file-some Getsubids = refl
-file-some Batch = refl
+file-some tool = refl
 
 -- ---- An answer of status 0 that changes nothing
 
 -- the cause of an answer that tells no change is no change
 not-change : (cause : AnswerCause) (told : Cause) → cause_of_answer cause ≡ told →
     (told ≡ Changed → ⊥) → is_change cause ≡ false
-not-change (Unusable problem) told is quiet = refl
-not-change (ModelRefused refusal) told is quiet = refl
-not-change (ModelRefusedLine line refusal) told is quiet = refl
-not-change ModelSame told is quiet = refl
 not-change (ModelChanged files) told is quiet = absurd (quiet (sym is))
+not-change cause told is quiet = refl
 
 -- both tests hold
 both-hold : (zero changes : Bool) → zero ≡ true → changes ≡ false → (zero && not changes) ≡ true
@@ -206,14 +170,6 @@ module _ (deeds : SuiteDeeds) (ours : AreOfTools deeds) (runner : Runner) (answe
       either-rule (RefusedLine line refusal) is (λ bad. cc) shown
   by-cause (Syntax fault) is says shown commits = absurd says
   by-cause (BatchSyntax line fault) is says shown commits = absurd says
-  by-cause (Held token) is says shown commits = told-rule (Held token) says (lock-some _)
-  by-cause (Gone number) is says shown commits = told-rule (Gone number) says (lock-some _)
-  by-cause (Raced number) is says shown commits = told-rule (Raced number) says (lock-some _)
-  by-cause (Outrun number greater) is says shown commits =
-      told-rule (Outrun number greater) says (lock-some _)
-  by-cause (LockDamaged number) is says shown commits =
-      told-rule (LockDamaged number) says (lock-some _)
-  by-cause Exhausted is says shown commits = told-rule Exhausted says (lock-some _)
   by-cause (IntentDamaged part) is says shown commits =
       told-rule (IntentDamaged part) says (update-some _)
   by-cause (TooLarge Input) is says shown commits = absurd says
@@ -228,6 +184,7 @@ module _ (deeds : SuiteDeeds) (ours : AreOfTools deeds) (runner : Runner) (answe
   by-cause (OutputFault stage) is says shown commits = absurd says
   by-cause ClockFault is says shown commits = absurd says
   by-cause (Memory stage) is says shown commits = told-rule (Memory stage) says refl
+  by-cause cause is says shown commits = told-rule cause says (lock-some _)
 
   -- whatever its cause
   pub rule-of : Says runner.asked answer answer.outcome.cause →

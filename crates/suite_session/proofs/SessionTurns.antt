@@ -64,7 +64,6 @@ came-on : (admits : Admission) (runner : Runner) (old new : State) (was told : O
     Grew admits runner.token 1 was told → IfSome was (λ past. NeverAdmits admits runner.token) →
     StaysTold was told runner.token old new → IfSome was (CameTo runner old) →
     IfSome told (CameTo runner new)
-came-on admits runner old new None None journal counts at less stands one grew own stays came = tt
 came-on admits runner old new (Some was) (Some past) journal counts at less free one grew own stays came =
     record {
       named = came.named;
@@ -80,7 +79,7 @@ came-on admits runner old new (Some was) (Some past) journal counts at less free
     }
 came-on admits runner old new None (Some past) journal counts at less stands one grew own stays came =
     absurd grew
-came-on admits runner old new (Some was) None journal counts at less stands one grew own stays came = tt
+came-on admits runner old new was told journal counts at less stands one grew own stays came = tt
 
 -- a turn of a session whose events led to a state leads to the next
 pub steps-to : (before now : Moment) (runner : Runner) (old new : State) →
@@ -227,8 +226,7 @@ module _ (before now : Moment) (runner : Runner) (status : ℕ) where
               (came.free report);
         };
       }
-  answered-due answer None (Some past) may tells grew came due left = absurd tells
-  answered-due answer (Some was) None may tells grew came due left = absurd tells
+  answered-due answer was told may tells grew came due left = absurd tells
 
   -- it keeps a history lawful, for the deeds of the tools
   answered-lawful : IsRead runner.asked →
@@ -260,8 +258,7 @@ module _ (before now : Moment) (runner : Runner) (status : ℕ) where
               gives = tells.1.given;
             })),
       )
-  answered-lawful read deeds ours answer put is None (Some past) may tells says due = absurd tells
-  answered-lawful read deeds ours answer put is (Some was) None may tells says due = absurd tells
+  answered-lawful read deeds ours answer put is was told may tells says due = absurd tells
 
   -- it is one event of the session
   pub answer-one : MayAnswer before runner.token →
@@ -281,8 +278,7 @@ module _ (before now : Moment) (runner : Runner) (status : ℕ) where
               tells.1).next_events,
         ),
       )
-      by-told None (Some past) may tells = absurd tells
-      by-told (Some was) None may tells = absurd tells
+      by-told was told may tells = absurd tells
 
 -- the session has given its answer
 pub answers-turn : (before now : Moment) (runner : Runner) (answer : FinalAnswer) →

@@ -23,9 +23,8 @@ use Rattle.suite_rules.specs.Knowledge.{Stages}
 use Rattle.suite_rules.specs.OwnLock.{is_keeper, own_step}
 use Rattle.suite_rules.specs.Outcomes.{installs, pieces_left, stages, stages_more}
 use Rattle.suite_rules.specs.Standing.{Standing, nothing_staged, staged_step, staged_with, standing, standing_step}
-use Rattle.suite_rules.proofs.Names.{name-is}
+use Rattle.acct_outside.proofs.NameLemmas.{name-is, name-same}
 use Rattle.suite_rules.proofs.Own.{own-standing}
-use Rattle.memory_folder.proofs.NameLemmas.{same_name-self}
 use Rattle.lock_steps.specs.NextCall.{next_or}
 use Rattle.commit_steps.specs.NextCall.{backs_up_table, committing_call, installs_table}
 use Rattle.commit_steps.specs.Outcomes.{backs_up_more, backup_call, install_call, installs_more}
@@ -39,7 +38,7 @@ use Rattle.suite_answers.specs.declared.answer.Answer.{Answer}
 use Rattle.suite_answers.specs.declared.cause.Cause.{Cause}
 use Rattle.suite_answers.specs.declared.cause.Cause.TheVariants.{Memory}
 use Rattle.suite_session.specs.declared.state.State.{State}
-use Rattle.suite_session.specs.declared.state.State.TheVariants.{Looking, Reading, Asking, Claiming, Confirming, Withdrawing, ReadingIntent, Recovering, Moving, Loading, BackingUp, Committing, Installing, Unlocking, Freeing, Watching, Gathering, Answering}
+use Rattle.suite_session.specs.declared.state.State.TheVariants.{Looking, Recovering, Moving, BackingUp, Committing, Installing, Unlocking, Gathering, Answering}
 use Rattle.suite_session.specs.Runner.{Runner}
 use Rattle.suite_session.specs.Belongs.{StagesAs}
 use Rattle.suite_session.specs.Counts.{CountsTo}
@@ -175,7 +174,7 @@ module _ (slot : Option Name) (stood : Standing) (held : StagesAt slot stood) wh
       cases true same = refl
       cases false other = held.others name (λ some.
           let one : from ≡ name = cc (sym is ∙ some) in
-          true≢false (sym (same_name-self name) ∙ (ap (same_name name) (sym one) ∙ other)))
+          true≢false (sym (name-same name) ∙ (ap (same_name name) (sym one) ∙ other)))
   moved-step (writes name bytes) result unstaged is other = absurd unstaged
   moved-step (appends name piece) result unstaged is other = absurd unstaged
   moved-step call result unstaged is name = held.others name (none-other slot name is)
@@ -366,12 +365,6 @@ own-step token call result old new is =
         ≡ standing_step call result (standing token (own_events token old))
     one-step = rw ((bytes_eq-Decides token token).1 refl) refl
 
--- and without one
-own-same : (token : Token) (old new : History) → own_events token new ≡ own_events token old →
-    standing token new ≡ standing token old
-own-same token old new is = own-standing.same_standing token new
-    ∙ (ap (standing token) is ∙ sym (own-standing.same_standing token old))
-
 -- a session that found no memory has nothing to move
 memory-as : (state : State) (stood : Standing) → FindsNoMemory state → StagesAs state stood
 memory-as (Answering answer) stood none = λ goes_on. absurd (goes_on (stopped answer.outcome.cause none))
@@ -394,23 +387,7 @@ turned-as token slot call next was past (inr none) is at held =
 -- each state has a call left
 some-call : (state : State) → 0 < calls_left state
 some-call (Looking looking) = omega arith
-some-call (Reading seen) = omega arith
-some-call (Asking asking) = omega arith
-some-call (Claiming judged) = omega arith
-some-call (Confirming claimed) = omega arith
-some-call (Withdrawing loser) = omega arith
-some-call (ReadingIntent keeper) = omega arith
-some-call (Recovering recovering) = omega arith
-some-call (Moving moving) = omega arith
-some-call (Loading reader) = omega arith
-some-call (BackingUp walker answer) = omega arith
-some-call (Committing stager answer) = omega arith
-some-call (Installing walker answer) = omega arith
-some-call (Unlocking keeper answer) = omega arith
-some-call (Freeing freeing answer) = omega arith
-some-call (Watching watcher) = omega arith
-some-call (Gathering reading) = omega arith
-some-call (Answering answer) = omega arith
+some-call state = omega arith
 
 -- the first claim; no turn comes after the answer
 pub staged-then : (runner : Runner) (old next : State) (was past : Past) (journal : List Entry) →

@@ -6,7 +6,7 @@ use Rattle.std.proofs.Common.{◌≡◌, ◌<◌, refl, sym, ap, subst, ◌∙�
 use Rattle.acct_outside.specs.declared.streams.SinkFault.{SinkFault}
 use Rattle.suite_answers.specs.declared.answer.Answer.{Answer}
 use Rattle.suite_session.specs.declared.state.State.{State}
-use Rattle.suite_session.specs.declared.state.State.TheVariants.{Looking, Reading, Asking, Claiming, Confirming, Withdrawing, ReadingIntent, Recovering, Moving, Loading, BackingUp, Committing, Installing, Unlocking, Freeing, Watching, Gathering, Answering}
+use Rattle.suite_session.specs.declared.state.State.TheVariants.{Answering}
 use Rattle.suite_session.specs.Runner.{Runner}
 use Rattle.acct_outside.specs.Moment.{Moment}
 use Rattle.suite_session.specs.Answers.{after_fault, after_streams}
@@ -21,24 +21,8 @@ IsNoAnswer state = (answer : Answer) → state ≡ Answering answer → ⊥
 
 -- the first claim
 pub goes-on : (state : State) → IsNoAnswer state → 1 < calls_left state
-goes-on (Looking looking) apart = omega arith
-goes-on (Reading seen) apart = omega arith
-goes-on (Asking asking) apart = omega arith
-goes-on (Claiming judged) apart = omega arith
-goes-on (Confirming claimed) apart = omega arith
-goes-on (Withdrawing loser) apart = omega arith
-goes-on (ReadingIntent keeper) apart = omega arith
-goes-on (Recovering recovering) apart = omega arith
-goes-on (Moving moving) apart = omega arith
-goes-on (Loading reader) apart = omega arith
-goes-on (BackingUp walker answer) apart = omega arith
-goes-on (Committing change answer) apart = omega arith
-goes-on (Installing walker answer) apart = omega arith
-goes-on (Unlocking keeper answer) apart = omega arith
-goes-on (Freeing freeing answer) apart = omega arith
-goes-on (Watching watcher) apart = omega arith
-goes-on (Gathering reading) apart = omega arith
 goes-on (Answering answer) apart = absurd (apart answer refl)
+goes-on state apart = omega arith
 
 -- so it has none
 pub none-given : (state : State) → IsNoAnswer state → given_in state ≡ None

@@ -1,16 +1,19 @@
 -- Claim: a turn that makes one call of the folder, which neither begins, commits nor answers, leads
--- from the session's standing to that of the call's step (`turns`), or to an answer that is due
--- (`stops`).
+-- from the session's standing to that of the call's step (`turns`, of a step with a stage `leads-turns`), or
+-- to an answer that is due (`stops`, `ends`, `leads-faults`).
 -- Way: such a call leaves what the session was asked and how far its own commit is (`leaves` of
 -- suite_rules); the rest are the clauses of the typed step, by the session's token.
 use Rattle.std.proofs.Common.{◌≡◌, sym, ap, subst, ◌∙◌, ◌≤◌, [], inl, inr, Option, Some, None, IfSome, Result, Ok, Err}
 use Rattle.acct_outside.specs.declared.CommitStage.{CommitStage}
+use Rattle.acct_outside.specs.declared.CommitStage.TheVariants.{Before}
 use Rattle.acct_outside.specs.declared.FolderFault.{FolderFault}
 use Rattle.acct_outside.specs.declared.FolderFault.TheVariants.{Failed}
+use Rattle.acct_outside.specs.declared.StageFault.{StageFault}
 use Rattle.acct_outside.specs.Tokens.{Token}
 use Rattle.acct_outside.specs.Calls.{Call, Answer, CallResult}
 use Rattle.acct_outside.specs.Contract.{Tells as OutsideTells}
 use Rattle.acct_outside.specs.Faults.{HasRisen}
+use Rattle.suite_rules.specs.Outcomes.{LeadsTo, at_stage}
 use Rattle.suite_rules.specs.Standing.{Standing, standing_step}
 use Rattle.suite_rules.specs.Steps.{OwnCommand, own_command, StandsIn, AlwaysStaysLawful, Leaves, MakesCall}
 use Rattle.suite_rules.proofs.StepLemmas.{IsNoAnswer, leaves, stands-done, stands-left, stands-weaker, stayed}
@@ -41,7 +44,8 @@ use Rattle.suite_session.proofs.CauseLemmas.{IsMetAs, IsPlain, answers-fault, fa
 use Rattle.suite_session.proofs.GrowsLemmas.{tells-grow, grew-extends}
 use Rattle.suite_session.proofs.LeavingLemmas.{KeepsNone, LeavesUnkept, clean-else, fault-stopped, none-left}
 use Rattle.suite_session.proofs.LooksLemmas.{answers-less}
-use Rattle.suite_session.proofs.MeetingLemmas.{MeetsBy, fault-ends, fault-tells}
+use Rattle.suite_session.proofs.LeadsLemmas.{leads-stage, leads-failed}
+use Rattle.suite_session.proofs.MeetingLemmas.{IsQuiet, MeetsBy, fault-ends, fault-tells, leads-done, leads-ended, quiet-on}
 use Rattle.suite_session.proofs.OwnCallLemmas.{fault-met, makes-one, stays-told}
 use Rattle.suite_session.proofs.StagingLemmas.{stopped-stages}
 
@@ -162,8 +166,7 @@ module _ (before now : Moment) (runner : Runner) (commit : CommitStage) (Held : 
             stood = subst Held (sym (stayed before.admits runner.token stood.own was.history
                 then.between then.others).same_standing) stood.holds.holds;
           }
-      by-told None (Some past) stood tells = absurd tells
-      by-told (Some was) None stood tells = absurd tells
+      by-told was told stood tells = absurd tells
 
   -- what came to a fault, the session met as that
   pub ended : (stage : CommitStage) (fault : FolderFault) → made.answer ≡ Err fault →
@@ -193,8 +196,7 @@ module _ (before now : Moment) (runner : Runner) (commit : CommitStage) (Held : 
     commits = ap (λ (own : OwnCommand). own.commit) kept.1 ∙ (stood.holds.commits ∙ is);
     shown = shown;
   }
-  is-due answer is None (Some past) stood kept shown = absurd kept
-  is-due answer is (Some was) None stood kept shown = absurd kept
+  is-due answer is was now_told stood kept shown = absurd kept
 
   -- where it leaves no lock kept, the runner has left what it must
   pub unkept-left : (cause : Cause) →
@@ -313,6 +315,19 @@ module _ (before now : Moment) (runner : Runner) (commit : CommitStage) (Held : 
         (λ fault. failed (answers-fault runner.asked.request.tool cause state told fault)) staged
         (answers-less runner.asked.request.tool cause old state told)
 
+    -- a turn to the answer of what the session met by a call that leaves no lock kept
+    pub ends : (cause : Cause) → AnswersWith runner.asked.request.tool cause state →
+        IsPlain cause →
+        (((answer : Answer call) → made.answer ≡ Ok answer →
+        IfSome now.told (λ past. Met runner.token call answer Held past.history)) →
+        ((fault : FolderFault) → made.answer ≡ Err fault →
+        HasMetNow now runner (cause_of_fault Before fault)) → HasMetNow now runner cause) →
+        ((IsStopped cause → ⊥) → LeavesUnkept call made.answer Held) →
+        commit ≡ stage_of cause → (IsOutside cause → HasRisen before.faults now.faults) →
+        StagesTo call state → Turns before now runner old state
+    ends cause told plain met unkept =
+        stops cause told plain (met got (ended Before)) (unkept-left cause unkept)
+
   -- a turn to the answer of a call that came to a fault
   pub faults : AlwaysStaysLawful before now → before.faults ≤ now.faults →
       (old state : State) → state_call old ≡ call →
@@ -331,3 +346,31 @@ module _ (before now : Moment) (runner : Runner) (commit : CommitStage) (Held : 
       (at ∙ sym (fault-stage stage fault))
       (λ outside. risen (fault-failed stage fault outside))
       (stopped-stages tool stage fault state told call)
+
+  -- a turn to the state of a step that was done, whose call shows nothing that a session meets
+  pub leads-turns : {S : Type 0} (next : S) (staged : FolderFault → StageFault) (reached : S) →
+      LeadsTo next staged made.answer (Ok reached) → IsQuiet call →
+      AlwaysStaysLawful before now → before.faults ≤ now.faults →
+      (old state : State) → state_call old ≡ call →
+      ((met : Cause) → IsToTell old met → IsToTell state met × MayFollow met call) →
+      StandsAs now runner state → (TellsOutside state → ⊥) → StagesTo call state →
+      LooksLess old state → Turns before now runner old state
+  leads-turns next staged reached shown shows_none lawful never_falls old state called =
+      let done = leads-done next staged made.answer reached shown in
+      turns lawful never_falls old state called
+      (quiet-on call shows_none made.answer done.0 Held state done.1)
+
+  -- a turn to the answer of the fault of a step at the session's stage
+  pub leads-faults : {S : Type 0} (next : S) (fault : StageFault) →
+      LeadsTo next (at_stage commit) made.answer (Err fault) →
+      AlwaysStaysLawful before now → before.faults ≤ now.faults →
+      (old state : State) → state_call old ≡ call →
+      ((met : Cause) → IsToTell old met → MayFollow met call) →
+      AnswersWith runner.asked.request.tool (cause_of_fault fault.stage fault.fault) state →
+      (fault ≡ at_stage commit Failed → HasRisen before.faults now.faults) →
+      Turns before now runner old state
+  leads-faults next fault shown lawful never_falls old state called follow told risen =
+      faults lawful never_falls old state called follow fault.stage fault.fault
+      (leads-ended next commit made.answer fault shown) told
+      (sym (leads-stage next commit made.answer fault shown))
+      (λ failed. risen (leads-failed next commit made.answer fault shown failed))

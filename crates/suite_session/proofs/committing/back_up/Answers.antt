@@ -9,12 +9,10 @@ use Rattle.commit_steps.proofs.NextLemmas.{backs-on}
 use Rattle.suite_session.specs.declared.state.State.TheVariants.{BackingUp}
 use Rattle.suite_session.proofs.LooksLemmas.{few-less}
 use Rattle.suite_session.proofs.StagingLemmas.{backup-added}
-use Rattle.suite_session.proofs.TurnLemmas.{turns, faults}
-use Rattle.suite_session.proofs.CauseLemmas.{fault-outside}
-use Rattle.suite_session.proofs.LeadsLemmas.{leads-on, leads-stage, leads-failed}
+use Rattle.suite_session.proofs.TurnLemmas.{leads-turns, leads-faults}
+use Rattle.suite_session.proofs.LeadsLemmas.{leads-on}
 use Rattle.suite_session.proofs.CommittingTurns.{backs-to}
 use Rattle.suite_session.proofs.WalkingLemmas.{at-piece}
-use Rattle.suite_session.proofs.MeetingLemmas.{quiet-on, leads-done, leads-ended}
 use Rattle.suite_session.proofs.CallsLemmas.{answers-append, backing-some, some-left}
 use Rattle.suite_session.proofs.CommitCalls.{backed-more, backing-appends}
 use Rattle.suite_session.proofs.DueTextLemmas.{backs-more-due}
@@ -38,14 +36,13 @@ returns-in-Ok g c = record {
       (next_table walker) some c.in-Ok.ensures.call in
       let due = backs-more-due c.args.runner.now c.args.answer walker shown.0 shown.2
       c.requires.of_change some in
-      let done = leads-done (append_on walker) before_commit _ c.in-Ok.backing shown.1.shown in
-      turns before now c.args.runner.now Before (BacksUp walker) c.requires.stands (token_of walker)
+      leads-turns before now c.args.runner.now Before (BacksUp walker) c.requires.stands
+      (token_of walker)
       c.requires.same (backs_up_more walker shown.0) due _ (λ result stood. refl) shown.1
+      (append_on walker) before_commit c.in-Ok.backing shown.1.shown (λ given one met shows. shows)
       c.append_next.ensures.lawful c.append_next.ensures.faults.never_falls
       (BackingUp walker c.args.answer) (BackingUp c.in-Ok.backing c.args.answer)
       (backs-on walker shown.0 shown.2 some)
-      (quiet-on (backs_up_more walker shown.0) (λ given one met shows. shows) shown.1.answer done.0
-      _ _ done.1)
       (λ met none. absurd none)
       (backs-to before now c.args.runner.now c.args.answer walker c.requires
       (backs_up_more walker shown.0) due (λ result stood. refl) (append_on walker) c.in-Ok.backing
@@ -74,18 +71,14 @@ returns-in-Err g c = record {
       (next_table walker) some c.in-Err.ensures.call in
       let due = backs-more-due c.args.runner.now c.args.answer walker shown.0 shown.2
       c.requires.of_change some in
-      let fault = c.in-Err.fault in
-      let stage = leads-stage (append_on walker) Before shown.1.answer fault shown.1.shown in
-      faults before now c.args.runner.now Before (BacksUp walker) c.requires.stands
+      leads-faults before now c.args.runner.now Before (BacksUp walker) c.requires.stands
       (token_of walker) c.requires.same (backs_up_more walker shown.0) due _ (λ result stood. refl)
       shown.1
+      (append_on walker) c.in-Err.fault shown.1.shown
       c.append_next.ensures.lawful c.append_next.ensures.faults.never_falls
       (BackingUp walker c.args.answer) c.given_up.result (backs-on walker shown.0 shown.2 some)
-      (λ met none. absurd none) fault.stage fault.fault
-      (leads-ended (append_on walker) Before _ fault shown.1.shown) c.given_up.ensures (sym stage)
-      (λ failed. c.append_next.ensures.faults.failed (c.in-Err.is ∙ ap Err
-      (leads-failed (append_on walker) Before _ fault shown.1.shown
-      (fault-outside fault.stage fault.fault failed))));
+      (λ met none. absurd none)
+      c.given_up.ensures (λ is. c.append_next.ensures.faults.failed (c.in-Err.is ∙ ap Err is));
   counts =
       let walker = c.args.backing in
       let some = some-left _ _ c.pieces.ensures c.if-pieces-eq0.false in

@@ -1,4 +1,4 @@
-use Rattle.std.proofs.Common.{refl, sym, ap, ◌∙◌, Err}
+use Rattle.std.proofs.Common.{refl, ap, ◌∙◌, Err}
 use Rattle.acct_outside.specs.declared.CommitStage.TheVariants.{Before}
 use Rattle.commit_steps.specs.States.{step_on}
 use Rattle.commit_steps.specs.Walks.{token_of}
@@ -9,12 +9,10 @@ use Rattle.suite_session.specs.declared.state.State.TheVariants.{BackingUp}
 use Rattle.commit_steps.proofs.NextLemmas.{backs-some}
 use Rattle.suite_session.proofs.LooksLemmas.{few-less}
 use Rattle.suite_session.proofs.StagingLemmas.{backup-stepped}
-use Rattle.suite_session.proofs.TurnLemmas.{turns, faults}
-use Rattle.suite_session.proofs.CauseLemmas.{fault-outside}
-use Rattle.suite_session.proofs.LeadsLemmas.{leads-on, leads-stage, leads-failed}
+use Rattle.suite_session.proofs.TurnLemmas.{leads-turns, leads-faults}
+use Rattle.suite_session.proofs.LeadsLemmas.{leads-on}
 use Rattle.suite_session.proofs.CommittingTurns.{backs-to}
 use Rattle.suite_session.proofs.WalkingLemmas.{at-place, backup-shows, backup-calls, backup-quiet, step-change}
-use Rattle.suite_session.proofs.MeetingLemmas.{quiet-on, leads-done, leads-ended}
 use Rattle.suite_session.proofs.CallsLemmas.{answers-fewer, backing-some, some-left}
 use Rattle.suite_session.proofs.CommitCalls.{backed-calls}
 use Rattle.suite_session.proofs.committing.back_up_table.Goals as goal
@@ -28,18 +26,15 @@ returns-in-Ok g c = record {
       c.in-Ok.ensures.call in
       let due = backup-calls c.args.runner.now c.args.answer c.args.backing shown.0
       c.requires.stands.of_change shown.2 in
-      let done = leads-done (step_on c.args.backing) before_commit _ c.in-Ok.backing shown.1.shown
-      in
-      turns before now c.args.runner.now Before (BacksUp c.args.backing)
+      leads-turns before now c.args.runner.now Before (BacksUp c.args.backing)
       c.requires.stands.stands (token_of c.args.backing) c.requires.stands.same
       (backup_call c.args.backing shown.0) due _
       (backup-quiet c.args.backing shown.0) shown.1
+      (step_on c.args.backing) before_commit c.in-Ok.backing shown.1.shown
+      (backup-shows c.args.backing shown.0)
       c.back_up_next.ensures.lawful c.back_up_next.ensures.faults.never_falls
       (BackingUp c.args.backing c.args.answer) (BackingUp c.in-Ok.backing c.args.answer)
       (backs-some c.args.backing shown.0 shown.2 c.requires.whole)
-      (quiet-on (backup_call c.args.backing shown.0) (backup-shows c.args.backing shown.0)
-      shown.1.answer
-      done.0 _ _ done.1)
       (λ met none. absurd none)
       (backs-to before now c.args.runner.now c.args.answer c.args.backing c.requires.stands
       (backup_call c.args.backing shown.0) due
@@ -68,21 +63,16 @@ returns-in-Err g c = record {
       c.in-Err.ensures.call in
       let due = backup-calls c.args.runner.now c.args.answer c.args.backing shown.0
       c.requires.stands.of_change shown.2 in
-      let fault = c.in-Err.fault in
-      let stage = leads-stage (step_on c.args.backing) Before shown.1.answer fault shown.1.shown in
-      faults before now c.args.runner.now Before (BacksUp c.args.backing)
+      leads-faults before now c.args.runner.now Before (BacksUp c.args.backing)
       c.requires.stands.stands (token_of c.args.backing) c.requires.stands.same
       (backup_call c.args.backing shown.0) due _
       (backup-quiet c.args.backing shown.0) shown.1
+      (step_on c.args.backing) c.in-Err.fault shown.1.shown
       c.back_up_next.ensures.lawful c.back_up_next.ensures.faults.never_falls
       (BackingUp c.args.backing c.args.answer) c.given_up.result
       (backs-some c.args.backing shown.0 shown.2 c.requires.whole)
-      (λ met none. absurd none) fault.stage fault.fault
-      (leads-ended (step_on c.args.backing) Before _ fault shown.1.shown) c.given_up.ensures
-      (sym stage)
-      (λ failed. c.back_up_next.ensures.faults.failed (c.in-Err.is ∙ ap Err
-      (leads-failed (step_on c.args.backing) Before _ fault shown.1.shown
-      (fault-outside fault.stage fault.fault failed))));
+      (λ met none. absurd none)
+      c.given_up.ensures (λ is. c.back_up_next.ensures.faults.failed (c.in-Err.is ∙ ap Err is));
   counts =
       answers-fewer _ _ c.given_up.result c.given_up.ensures _
       (backing-some c.args.backing c.args.answer) c.requires.whole;

@@ -10,11 +10,9 @@ use Rattle.suite_session.specs.declared.state.State.TheVariants.{Installing, Unl
 use Rattle.suite_session.specs.Stands.{Turns}
 use Rattle.commit_steps.proofs.InstallNextLemmas.{installs-none}
 use Rattle.suite_session.proofs.LooksLemmas.{few-less}
-use Rattle.suite_session.proofs.TurnLemmas.{turns, faults}
-use Rattle.suite_session.proofs.CauseLemmas.{fault-outside}
-use Rattle.suite_session.proofs.LeadsLemmas.{leads-on, leads-stage, leads-failed}
+use Rattle.suite_session.proofs.TurnLemmas.{leads-turns, leads-faults}
+use Rattle.suite_session.proofs.LeadsLemmas.{leads-on}
 use Rattle.suite_session.proofs.CommittingTurns.{clears}
-use Rattle.suite_session.proofs.MeetingLemmas.{quiet-on, leads-done, leads-ended}
 use Rattle.suite_session.proofs.CallsLemmas.{answers-fewer, installing-some}
 use Rattle.suite_session.proofs.CommitCalls.{cleared-calls}
 use Rattle.suite_session.proofs.committing.clear.Goals as goal
@@ -24,20 +22,17 @@ returns-in-Ok g c = record {
   turns =
       let before = g.F.Folder.moment c.args.folder.now in
       let now = g.F.Folder.moment c.clear.new.folder in
-      let done = leads-done c.args.installing.change.inputs.keeper after_commit _ c.in-Ok.cleared
-      c.in-Ok.ensures.call.shown in
       subst (λ (kept : Kept). Turns before now c.args.runner.now
       (Installing c.args.installing c.args.answer) (Unlocking kept c.args.answer))
       (sym (c.forget.ensures ∙ c.release.ensures))
-      (turns before now c.args.runner.now Committed (Installs c.args.installing)
+      (leads-turns before now c.args.runner.now Committed (Installs c.args.installing)
       c.requires.stands.stands (token_of c.args.installing) c.requires.stands.same
       (removes Intent) tt _ (λ result stood. refl) c.in-Ok.ensures.call
+      c.args.installing.change.inputs.keeper after_commit c.in-Ok.cleared c.in-Ok.ensures.call.shown
+      (λ given one met shows. shows)
       c.clear.ensures.lawful c.clear.ensures.faults.never_falls
       (Installing c.args.installing c.args.answer) (Unlocking c.in-Ok.cleared c.args.answer)
       (installs-none c.args.installing c.requires.left)
-      (quiet-on (removes Intent) (λ given one met shows. shows) c.in-Ok.ensures.call.answer done.0 _
-      _
-      done.1)
       (λ met none. absurd none)
       (clears before now c.args.runner.now c.args.answer c.args.installing c.requires.stands
       (removes Intent) tt _ (λ result stood. refl) c.in-Ok.ensures.call c.in-Ok.cleared
@@ -58,24 +53,16 @@ returns-in-Err g c = record {
   turns =
       let before = g.F.Folder.moment c.args.folder.now in
       let now = g.F.Folder.moment c.clear.new.folder in
-      let fault = c.in-Err.fault in
-      let stage = leads-stage (c.args.installing.change.inputs.keeper) Committed
-      c.in-Err.ensures.call.answer fault c.in-Err.ensures.call.shown in
-      faults before now c.args.runner.now Committed (Installs c.args.installing)
+      leads-faults before now c.args.runner.now Committed (Installs c.args.installing)
       c.requires.stands.stands (token_of c.args.installing) c.requires.stands.same (removes Intent)
       tt _
       (λ result stood. refl) c.in-Err.ensures.call
+      c.args.installing.change.inputs.keeper c.in-Err.fault c.in-Err.ensures.call.shown
       c.clear.ensures.lawful c.clear.ensures.faults.never_falls
       (Installing c.args.installing c.args.answer) c.given_up.result
       (installs-none c.args.installing c.requires.left)
-      (λ met none. absurd none) fault.stage fault.fault
-      (leads-ended c.args.installing.change.inputs.keeper Committed _ fault
-      c.in-Err.ensures.call.shown) c.given_up.ensures
-      (sym stage)
-      (λ failed. c.clear.ensures.faults.failed (c.in-Err.is ∙ ap Err
-      (leads-failed c.args.installing.change.inputs.keeper Committed _ fault
-      c.in-Err.ensures.call.shown
-      (fault-outside fault.stage fault.fault failed))));
+      (λ met none. absurd none)
+      c.given_up.ensures (λ is. c.clear.ensures.faults.failed (c.in-Err.is ∙ ap Err is));
   counts =
       answers-fewer _ _ c.given_up.result c.given_up.ensures _
       (installing-some c.args.installing c.args.answer) c.requires.whole;

@@ -8,11 +8,9 @@ use Rattle.commit_steps.specs.Stands.{HasStagedIntent}
 use Rattle.commit_steps.proofs.NextLemmas.{commits-on}
 use Rattle.suite_session.specs.declared.state.State.TheVariants.{Committing}
 use Rattle.suite_session.proofs.LooksLemmas.{few-less}
-use Rattle.suite_session.proofs.TurnLemmas.{turns, faults}
-use Rattle.suite_session.proofs.CauseLemmas.{fault-outside}
-use Rattle.suite_session.proofs.LeadsLemmas.{leads-on, leads-stage, leads-failed}
+use Rattle.suite_session.proofs.TurnLemmas.{leads-turns, leads-faults}
+use Rattle.suite_session.proofs.LeadsLemmas.{leads-on}
 use Rattle.suite_session.proofs.CommittingTurns.{adds-intent}
-use Rattle.suite_session.proofs.MeetingLemmas.{quiet-on, leads-done, leads-ended}
 use Rattle.suite_session.proofs.CallsLemmas.{answers-append, committing-some, some-left}
 use Rattle.suite_session.proofs.CommitCalls.{committing-appends, staged-more}
 use Rattle.suite_session.proofs.DueTextLemmas.{intent-more-due}
@@ -34,15 +32,14 @@ returns-in-Ok g c = record {
       let some = some-left _ _ c.pieces.ensures c.if-pieces-eq0.false in
       let call = appends IntentStage (intent_piece stager.staged stager.change) in
       let due = intent-more-due c.args.runner.now c.args.answer stager c.requires.of_change some in
-      let done = leads-done (append_intent stager) before_commit _ c.in-Ok.staged
-      c.in-Ok.ensures.call.shown in
-      turns before now c.args.runner.now Before (HasStagedIntent stager) c.requires.stands
+      leads-turns before now c.args.runner.now Before (HasStagedIntent stager) c.requires.stands
       stager.change.inputs.keeper.token c.requires.same call due _ (λ result stood. refl)
       c.in-Ok.ensures.call
+      (append_intent stager) before_commit c.in-Ok.staged c.in-Ok.ensures.call.shown
+      (λ given one met shows. shows)
       c.append_intent.ensures.lawful c.append_intent.ensures.faults.never_falls
       (Committing stager c.args.answer) (Committing c.in-Ok.staged c.args.answer)
       (commits-on stager some)
-      (quiet-on call (λ given one met shows. shows) c.in-Ok.ensures.call.answer done.0 _ _ done.1)
       (λ met none. absurd none)
       (adds-intent before now c.args.runner.now c.args.answer stager c.requires call due
       (λ result stood. refl) c.in-Ok.staged c.in-Ok.ensures.call c.in-Ok.ensures.next)
@@ -65,20 +62,14 @@ returns-in-Err g c = record {
       let some = some-left _ _ c.pieces.ensures c.if-pieces-eq0.false in
       let call = appends IntentStage (intent_piece stager.staged stager.change) in
       let due = intent-more-due c.args.runner.now c.args.answer stager c.requires.of_change some in
-      let fault = c.in-Err.fault in
-      let stage = leads-stage (append_intent stager) Before c.in-Err.ensures.call.answer fault
-      c.in-Err.ensures.call.shown in
-      faults before now c.args.runner.now Before (HasStagedIntent stager) c.requires.stands
+      leads-faults before now c.args.runner.now Before (HasStagedIntent stager) c.requires.stands
       stager.change.inputs.keeper.token c.requires.same call due _ (λ result stood. refl)
       c.in-Err.ensures.call
+      (append_intent stager) c.in-Err.fault c.in-Err.ensures.call.shown
       c.append_intent.ensures.lawful c.append_intent.ensures.faults.never_falls
       (Committing stager c.args.answer) c.given_up.result (commits-on stager some)
-      (λ met none. absurd none) fault.stage fault.fault
-      (leads-ended (append_intent stager) Before _ fault c.in-Err.ensures.call.shown)
-      c.given_up.ensures (sym stage)
-      (λ failed. c.append_intent.ensures.faults.failed (c.in-Err.is ∙ ap Err
-      (leads-failed (append_intent stager) Before _ fault c.in-Err.ensures.call.shown
-      (fault-outside fault.stage fault.fault failed))));
+      (λ met none. absurd none)
+      c.given_up.ensures (λ is. c.append_intent.ensures.faults.failed (c.in-Err.is ∙ ap Err is));
   counts =
       let stager = c.args.staged in
       let some = some-left _ _ c.pieces.ensures c.if-pieces-eq0.false in

@@ -9,12 +9,10 @@ use Rattle.commit_steps.proofs.InstallNextLemmas.{adds-on}
 use Rattle.suite_session.specs.declared.state.State.TheVariants.{Installing}
 use Rattle.suite_session.proofs.LooksLemmas.{few-less}
 use Rattle.suite_session.proofs.StagingLemmas.{install-added}
-use Rattle.suite_session.proofs.TurnLemmas.{turns, faults}
-use Rattle.suite_session.proofs.CauseLemmas.{fault-outside}
-use Rattle.suite_session.proofs.LeadsLemmas.{leads-on, leads-stage, leads-failed}
+use Rattle.suite_session.proofs.TurnLemmas.{leads-turns, leads-faults}
+use Rattle.suite_session.proofs.LeadsLemmas.{leads-on}
 use Rattle.suite_session.proofs.CommittingTurns.{installs-to}
 use Rattle.suite_session.proofs.WalkingLemmas.{at-piece}
-use Rattle.suite_session.proofs.MeetingLemmas.{quiet-on, leads-done, leads-ended}
 use Rattle.suite_session.proofs.CallsLemmas.{answers-append, installing-some, some-left}
 use Rattle.suite_session.proofs.CommitCalls.{installed-more, installing-appends}
 use Rattle.suite_session.proofs.DueTextLemmas.{installs-more-due}
@@ -37,15 +35,14 @@ returns-in-Ok g c = record {
       let shown = at-piece (λ one. pieces_left walker.staged one.bytes)
       (next_table walker) some c.in-Ok.ensures.call in
       let due = installs-more-due c.args.runner.now walker shown.0 shown.2 some in
-      let done = leads-done (append_on walker) after_commit _ c.in-Ok.installing shown.1.shown in
-      turns before now c.args.runner.now Committed (Installs walker) c.requires.stands
+      leads-turns before now c.args.runner.now Committed (Installs walker) c.requires.stands
       (token_of walker)
       c.requires.same (installs_more walker shown.0) due _ (λ result stood. refl) shown.1
+      (append_on walker) after_commit c.in-Ok.installing shown.1.shown
+      (λ given one met shows. shows)
       c.append_next.ensures.lawful c.append_next.ensures.faults.never_falls
       (Installing walker c.args.answer) (Installing c.in-Ok.installing c.args.answer)
       (adds-on walker shown.0 shown.2 some)
-      (quiet-on (installs_more walker shown.0) (λ given one met shows. shows) shown.1.answer done.0
-      _ _ done.1)
       (λ met none. absurd none)
       (installs-to before now c.args.runner.now c.args.answer walker c.requires
       (installs_more walker shown.0) due _ (λ result stood. refl) shown.1 (append_on walker)
@@ -77,19 +74,14 @@ returns-in-Err g c = record {
       let shown = at-piece (λ one. pieces_left walker.staged one.bytes)
       (next_table walker) some c.in-Err.ensures.call in
       let due = installs-more-due c.args.runner.now walker shown.0 shown.2 some in
-      let fault = c.in-Err.fault in
-      let stage = leads-stage (append_on walker) Committed shown.1.answer fault shown.1.shown in
-      faults before now c.args.runner.now Committed (Installs walker) c.requires.stands
+      leads-faults before now c.args.runner.now Committed (Installs walker) c.requires.stands
       (token_of walker) c.requires.same (installs_more walker shown.0) due _ (λ result stood. refl)
       shown.1
+      (append_on walker) c.in-Err.fault shown.1.shown
       c.append_next.ensures.lawful c.append_next.ensures.faults.never_falls
       (Installing walker c.args.answer) c.given_up.result (adds-on walker shown.0 shown.2 some)
-      (λ met none. absurd none) fault.stage fault.fault
-      (leads-ended (append_on walker) Committed _ fault shown.1.shown)
-      c.given_up.ensures (sym stage)
-      (λ failed. c.append_next.ensures.faults.failed (c.in-Err.is ∙ ap Err
-      (leads-failed (append_on walker) Committed _ fault shown.1.shown
-      (fault-outside fault.stage fault.fault failed))));
+      (λ met none. absurd none)
+      c.given_up.ensures (λ is. c.append_next.ensures.faults.failed (c.in-Err.is ∙ ap Err is));
   counts =
       let walker = c.args.installing in
       let some = some-left _ _ c.pieces.ensures c.if-pieces-eq0.false in

@@ -1,4 +1,4 @@
-use Rattle.std.proofs.Common.{refl, sym, ap, ◌∙◌, Err}
+use Rattle.std.proofs.Common.{refl, ap, ◌∙◌, Err}
 use Rattle.acct_outside.specs.declared.CommitStage.TheVariants.{Committed}
 use Rattle.commit_steps.specs.States.{step_on}
 use Rattle.commit_steps.specs.Walks.{token_of}
@@ -9,12 +9,10 @@ use Rattle.suite_session.specs.declared.state.State.TheVariants.{Installing}
 use Rattle.commit_steps.proofs.InstallNextLemmas.{installs-some}
 use Rattle.suite_session.proofs.LooksLemmas.{few-less}
 use Rattle.suite_session.proofs.StagingLemmas.{install-stepped}
-use Rattle.suite_session.proofs.TurnLemmas.{turns, faults}
-use Rattle.suite_session.proofs.CauseLemmas.{fault-outside}
-use Rattle.suite_session.proofs.LeadsLemmas.{leads-on, leads-stage, leads-failed}
+use Rattle.suite_session.proofs.TurnLemmas.{leads-turns, leads-faults}
+use Rattle.suite_session.proofs.LeadsLemmas.{leads-on}
 use Rattle.suite_session.proofs.CommittingTurns.{installs-to}
 use Rattle.suite_session.proofs.WalkingLemmas.{at-place, install-shows, install-calls, install-quiet, step-change}
-use Rattle.suite_session.proofs.MeetingLemmas.{quiet-on, leads-done, leads-ended}
 use Rattle.suite_session.proofs.CallsLemmas.{answers-fewer, installing-some, some-left}
 use Rattle.suite_session.proofs.CommitCalls.{installed-calls}
 use Rattle.suite_session.proofs.committing.install_table.Goals as goal
@@ -27,17 +25,15 @@ returns-in-Ok g c = record {
       let shown = at-place c.args.installing (some-left _ _ c.left.ensures c.if-left-eq0.false)
       c.in-Ok.ensures.call in
       let due = install-calls c.args.runner.now c.args.installing shown.0 shown.2 in
-      let done = leads-done (step_on c.args.installing) after_commit _ c.in-Ok.installing
-      shown.1.shown in
-      turns before now c.args.runner.now Committed (Installs c.args.installing)
+      leads-turns before now c.args.runner.now Committed (Installs c.args.installing)
       c.requires.stands.stands (token_of c.args.installing) c.requires.stands.same
       (install_call c.args.installing shown.0) due _
       (install-quiet c.args.installing shown.0) shown.1
+      (step_on c.args.installing) after_commit c.in-Ok.installing shown.1.shown
+      (install-shows c.args.installing shown.0)
       c.install_next.ensures.lawful c.install_next.ensures.faults.never_falls
       (Installing c.args.installing c.args.answer) (Installing c.in-Ok.installing c.args.answer)
       (installs-some c.args.installing shown.0 shown.2 c.requires.whole)
-      (quiet-on (install_call c.args.installing shown.0) (install-shows c.args.installing shown.0)
-      shown.1.answer done.0 _ _ done.1)
       (λ met none. absurd none)
       (installs-to before now c.args.runner.now c.args.answer c.args.installing c.requires.stands
       (install_call c.args.installing shown.0) due _
@@ -68,22 +64,16 @@ returns-in-Err g c = record {
       let shown = at-place c.args.installing (some-left _ _ c.left.ensures c.if-left-eq0.false)
       c.in-Err.ensures.call in
       let due = install-calls c.args.runner.now c.args.installing shown.0 shown.2 in
-      let fault = c.in-Err.fault in
-      let stage = leads-stage (step_on c.args.installing) Committed shown.1.answer fault
-      shown.1.shown in
-      faults before now c.args.runner.now Committed (Installs c.args.installing)
+      leads-faults before now c.args.runner.now Committed (Installs c.args.installing)
       c.requires.stands.stands (token_of c.args.installing) c.requires.stands.same
       (install_call c.args.installing shown.0) due _
       (install-quiet c.args.installing shown.0) shown.1
+      (step_on c.args.installing) c.in-Err.fault shown.1.shown
       c.install_next.ensures.lawful c.install_next.ensures.faults.never_falls
       (Installing c.args.installing c.args.answer) c.given_up.result
       (installs-some c.args.installing shown.0 shown.2 c.requires.whole)
-      (λ met none. absurd none) fault.stage fault.fault
-      (leads-ended (step_on c.args.installing) Committed _ fault shown.1.shown) c.given_up.ensures
-      (sym stage)
-      (λ failed. c.install_next.ensures.faults.failed (c.in-Err.is ∙ ap Err
-      (leads-failed (step_on c.args.installing) Committed _ fault shown.1.shown
-      (fault-outside fault.stage fault.fault failed))));
+      (λ met none. absurd none)
+      c.given_up.ensures (λ is. c.install_next.ensures.faults.failed (c.in-Err.is ∙ ap Err is));
   counts =
       answers-fewer _ _ c.given_up.result c.given_up.ensures _
       (installing-some c.args.installing c.args.answer) c.requires.whole;

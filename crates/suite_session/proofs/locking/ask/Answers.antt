@@ -4,7 +4,7 @@ use Rattle.acct_outside.specs.Calls.{asks}
 use Rattle.lock_steps.specs.Stands.{HasReadHeld, HasJudged}
 use Rattle.suite_session.proofs.MetLemmas.{ask-met}
 use Rattle.suite_session.proofs.LooksLemmas.{ask-less}
-use Rattle.suite_session.proofs.TurnLemmas.{ended, got, unkept-left, goes-on, turns, stops}
+use Rattle.suite_session.proofs.TurnLemmas.{ends, goes-on, turns}
 use Rattle.suite_session.proofs.LeavingLemmas.{ask-unkept}
 use Rattle.suite_session.proofs.LockingLemmas.{end-plain, end-stage, end-failed, asks-token}
 use Rattle.suite_session.proofs.LockingTurns.{judged-stands, judged-quiet}
@@ -47,31 +47,18 @@ returns-in-Err g c = record {
   turns =
       let before = g.F.Folder.moment c.args.folder.now in
       let now = g.F.Folder.moment c.ask.new.folder in
-      stops before now c.args.runner.now Before (HasReadHeld c.args.asking) c.requires.1
+      ends before now c.args.runner.now Before (HasReadHeld c.args.asking) c.requires.1
       c.args.asking.token c.requires.0 (asks c.args.asking.asked) tt _ (λ result stood. refl)
       c.in-Err.ensures.call
       c.ask.ensures.lawful c.ask.ensures.faults.never_falls
       (Asking c.args.asking) c.stopped.result refl
-      (ask-ends c.args.runner.now.asked.request.tool c.stopped.result c.args.asking
-      c.in-Err.ensures.call.answer
-      c.in-Err.end c.in-Err.ensures.call.shown c.stopped.ensures)
+      (ask-ends c.args.runner.now.asked.request.tool c.stopped.result c.args.asking _ c.in-Err.end
+      c.in-Err.ensures.call.shown c.stopped.ensures)
       (λ met none. absurd none)
       (cause_of_end c.in-Err.end) c.stopped.ensures (end-plain c.in-Err.end)
-      (ask-met c.args.runner.now now.told c.args.asking c.in-Err.ensures.call.answer
-      c.in-Err.end
-      c.requires.2 c.in-Err.ensures.call.shown
-      (got before now c.args.runner.now Before (HasReadHeld c.args.asking) c.requires.1
-      c.args.asking.token c.requires.0 (asks c.args.asking.asked) tt _ (λ result stood. refl)
-      c.in-Err.ensures.call)
-      (ended before now c.args.runner.now Before (HasReadHeld c.args.asking) c.requires.1
-      c.args.asking.token c.requires.0 (asks c.args.asking.asked) tt _ (λ result stood. refl)
-      c.in-Err.ensures.call Before))
-      (unkept-left before now c.args.runner.now Before (HasReadHeld c.args.asking)
-      c.requires.1 c.args.asking.token c.requires.0 (asks c.args.asking.asked) tt _
-      (λ result stood. refl)
-      c.in-Err.ensures.call _
-      (ask-unkept c.args.asking c.in-Err.ensures.call.answer c.in-Err.end
-      c.in-Err.ensures.call.shown))
+      (ask-met c.args.runner.now now.told c.args.asking _ c.in-Err.end c.requires.2
+      c.in-Err.ensures.call.shown)
+      (ask-unkept c.args.asking _ c.in-Err.end c.in-Err.ensures.call.shown)
       (sym (end-stage c.in-Err.end))
       (λ fault. c.ask.ensures.faults.failed
       (c.in-Err.is ∙ ap Err (end-failed c.in-Err.end fault))) tt;

@@ -4,7 +4,7 @@ use Rattle.acct_outside.specs.Calls.{creates}
 use Rattle.lock_steps.specs.Stands.{HasMade, HasJudged}
 use Rattle.suite_session.proofs.MetLemmas.{claim-met}
 use Rattle.suite_session.proofs.LooksLemmas.{few-less}
-use Rattle.suite_session.proofs.TurnLemmas.{ended, got, unkept-left, goes-on, turns, stops}
+use Rattle.suite_session.proofs.TurnLemmas.{ends, goes-on, turns}
 use Rattle.suite_session.proofs.LeavingLemmas.{claim-unkept}
 use Rattle.suite_session.proofs.LockingLemmas.{end-plain, end-stage, end-failed, claims-token}
 use Rattle.suite_session.proofs.MeetingLemmas.{claim-on, claim-ends}
@@ -46,34 +46,19 @@ returns-in-Err g c = record {
   turns =
       let before = g.F.Folder.moment c.args.folder.now in
       let now = g.F.Folder.moment c.claim.new.folder in
-      stops before now c.args.runner.now Before (HasJudged c.args.judged) c.requires.1
+      ends before now c.args.runner.now Before (HasJudged c.args.judged) c.requires.1
       c.args.judged.token c.requires.0 (creates (c.args.judged.greatest + 1)) tt _
       (λ result stood. refl)
       c.in-Err.ensures.call
       c.claim.ensures.lawful c.claim.ensures.faults.never_falls
       (Claiming c.args.judged) c.stopped.result refl
-      (claim-ends c.args.runner.now.asked.request.tool c.stopped.result c.args.judged
-      c.in-Err.ensures.call.answer
-      c.in-Err.end c.in-Err.ensures.call.shown c.stopped.ensures)
+      (claim-ends c.args.runner.now.asked.request.tool c.stopped.result c.args.judged _ c.in-Err.end
+      c.in-Err.ensures.call.shown c.stopped.ensures)
       (λ met none. absurd none)
       (cause_of_end c.in-Err.end) c.stopped.ensures (end-plain c.in-Err.end)
-      (claim-met c.args.runner.now now.told c.args.judged c.in-Err.ensures.call.answer
-      c.in-Err.end
-      c.in-Err.ensures.call.shown
-      (got before now c.args.runner.now Before (HasJudged c.args.judged) c.requires.1
-      c.args.judged.token c.requires.0 (creates (c.args.judged.greatest + 1)) tt _
-      (λ result stood. refl)
-      c.in-Err.ensures.call)
-      (ended before now c.args.runner.now Before (HasJudged c.args.judged) c.requires.1
-      c.args.judged.token c.requires.0 (creates (c.args.judged.greatest + 1)) tt _
-      (λ result stood. refl)
-      c.in-Err.ensures.call Before))
-      (unkept-left before now c.args.runner.now Before (HasJudged c.args.judged)
-      c.requires.1
-      c.args.judged.token c.requires.0 (creates (c.args.judged.greatest + 1)) tt _
-      (λ result stood. refl) c.in-Err.ensures.call _
-      (claim-unkept c.args.judged c.in-Err.ensures.call.answer c.in-Err.end
-      c.in-Err.ensures.call.shown))
+      (claim-met c.args.runner.now now.told c.args.judged _ c.in-Err.end
+      c.in-Err.ensures.call.shown)
+      (claim-unkept c.args.judged _ c.in-Err.end c.in-Err.ensures.call.shown)
       (sym (end-stage c.in-Err.end))
       (λ fault. c.claim.ensures.faults.failed
       (c.in-Err.is ∙ ap Err (end-failed c.in-Err.end fault))) tt;

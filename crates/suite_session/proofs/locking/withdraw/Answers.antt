@@ -3,7 +3,7 @@ use Rattle.acct_outside.specs.declared.Name.TheVariants.{Lock}
 use Rattle.acct_outside.specs.Calls.{removes}
 use Rattle.lock_steps.specs.Stands.{WasOvertaken}
 use Rattle.suite_session.proofs.MetLemmas.{withdraw-met}
-use Rattle.suite_session.proofs.TurnLemmas.{ended, got, unkept-left, stops}
+use Rattle.suite_session.proofs.TurnLemmas.{ends}
 use Rattle.suite_session.proofs.LeavingLemmas.{withdraw-unkept}
 use Rattle.suite_session.proofs.LockingLemmas.{end-plain, end-stage, end-failed}
 use Rattle.suite_session.proofs.MeetingLemmas.{withdraw-ends, withdraw-told}
@@ -18,34 +18,20 @@ returns g c = record {
   turns =
       let before = g.F.Folder.moment c.args.folder.now in
       let now = g.F.Folder.moment c.withdraw.new.folder in
-      stops before now c.args.runner.now Before (WasOvertaken c.args.loser) c.requires.2
+      ends before now c.args.runner.now Before (WasOvertaken c.args.loser) c.requires.2
       c.args.loser.token c.requires.0 (removes (Lock c.args.loser.number)) tt _
       (λ result stood. refl)
       c.withdraw.ensures.call
       c.withdraw.ensures.lawful c.withdraw.ensures.faults.never_falls
       (Withdrawing c.args.loser) c.stopped.result refl
-      (withdraw-ends c.args.runner.now.asked.request.tool c.stopped.result c.args.loser
-      c.withdraw.ensures.call.answer
+      (withdraw-ends c.args.runner.now.asked.request.tool c.stopped.result c.args.loser _
       c.withdraw.result c.withdraw.ensures.call.shown c.stopped.ensures)
-      (withdraw-told c.args.runner.now.asked.request.tool c.stopped.result c.args.loser
-      c.withdraw.ensures.call.answer
+      (withdraw-told c.args.runner.now.asked.request.tool c.stopped.result c.args.loser _
       c.withdraw.result c.withdraw.ensures.call.shown c.stopped.ensures)
       (cause_of_end c.withdraw.result) c.stopped.ensures (end-plain c.withdraw.result)
-      (withdraw-met c.args.runner.now now.told c.args.loser c.withdraw.ensures.call.answer
-      c.withdraw.result c.requires.1 c.withdraw.ensures.call.shown
-      (got before now c.args.runner.now Before (WasOvertaken c.args.loser) c.requires.2
-      c.args.loser.token c.requires.0 (removes (Lock c.args.loser.number)) tt _
-      (λ result stood. refl)
-      c.withdraw.ensures.call)
-      (ended before now c.args.runner.now Before (WasOvertaken c.args.loser) c.requires.2
-      c.args.loser.token c.requires.0 (removes (Lock c.args.loser.number)) tt _
-      (λ result stood. refl)
-      c.withdraw.ensures.call Before))
-      (unkept-left before now c.args.runner.now Before (WasOvertaken c.args.loser)
-      c.requires.2 c.args.loser.token c.requires.0 (removes (Lock c.args.loser.number)) tt _
-      (λ result stood. refl) c.withdraw.ensures.call _
-      (withdraw-unkept c.args.loser c.withdraw.ensures.call.answer c.withdraw.result
-      c.withdraw.ensures.call.shown))
+      (withdraw-met c.args.runner.now now.told c.args.loser _ c.withdraw.result c.requires.1
+      c.withdraw.ensures.call.shown)
+      (withdraw-unkept c.args.loser _ c.withdraw.result c.withdraw.ensures.call.shown)
       (sym (end-stage c.withdraw.result))
       (λ fault. c.withdraw.ensures.faults.failed (ap Err (end-failed c.withdraw.result fault)))
       tt;

@@ -7,11 +7,9 @@ use Rattle.recovery.proofs.NextLemmas.{moves-on}
 use Rattle.suite_session.specs.declared.state.State.TheVariants.{Moving}
 use Rattle.suite_session.proofs.LooksLemmas.{few-less}
 use Rattle.suite_session.proofs.StagingLemmas.{table-staged}
-use Rattle.suite_session.proofs.TurnLemmas.{may-step, goes-on, turns, faults}
-use Rattle.suite_session.proofs.CauseLemmas.{fault-outside}
+use Rattle.suite_session.proofs.TurnLemmas.{may-step, goes-on, leads-turns, leads-faults}
 use Rattle.suite_session.proofs.RecoveringTurns.{some-next}
-use Rattle.suite_session.proofs.LeadsLemmas.{leads-on, leads-stage, leads-failed}
-use Rattle.suite_session.proofs.MeetingLemmas.{quiet-on, leads-done, leads-ended}
+use Rattle.suite_session.proofs.LeadsLemmas.{leads-on}
 use Rattle.suite_session.proofs.CallsLemmas.{added-calls, answers-append, moving-appends, moving-some, some-left}
 use Rattle.suite_session.proofs.DueTextLemmas.{recovers-more-due}
 use Rattle.suite_session.proofs.recovering.move_table.Goals as goal
@@ -40,12 +38,12 @@ returns-in-Ok g c = record {
       let due = recovers-more-due c.args.runner.now moving shown.0 shown.2 in
       let call = stages_more moving.staged shown.0 in
       let is = leads-on (appended_once moving) before_commit _ c.in-Ok.moving shown.1.shown in
-      let done = leads-done (appended_once moving) before_commit _ c.in-Ok.moving shown.1.shown in
-      turns before now c.args.runner.now Before (HasStagedNext moving) c.requires.2
+      leads-turns before now c.args.runner.now Before (HasStagedNext moving) c.requires.2
       moving.keeper.token c.requires.0 call due _ (λ result stood. refl) shown.1
+      (appended_once moving) before_commit c.in-Ok.moving shown.1.shown
+      (λ given one met shows. shows)
       c.append_next.ensures.lawful c.append_next.ensures.faults.never_falls (Moving moving)
       (Moving c.in-Ok.moving) (moves-on moving shown.0 shown.2 some)
-      (quiet-on call (λ given one met shows. shows) shown.1.answer done.0 _ _ done.1)
       (λ met none. absurd none) (
         ap (λ (one : Mover). one.keeper.token) is ∙ c.requires.0,
         subst (λ (one : Mover). 0 < length one.left) (sym is) c.requires.1,
@@ -74,17 +72,13 @@ returns-in-Err g c = record {
       let shown = some-next moving.left c.requires.1 c.in-Err.ensures.call in
       let due = recovers-more-due c.args.runner.now moving shown.0 shown.2 in
       let call = stages_more moving.staged shown.0 in
-      let fault = c.in-Err.fault in
-      faults before now c.args.runner.now Before (HasStagedNext moving) c.requires.2
+      leads-faults before now c.args.runner.now Before (HasStagedNext moving) c.requires.2
       moving.keeper.token c.requires.0 call due _ (λ result stood. refl) shown.1
+      (appended_once moving) c.in-Err.fault shown.1.shown
       c.append_next.ensures.lawful c.append_next.ensures.faults.never_falls (Moving moving)
       c.stopped.result (moves-on moving shown.0 shown.2 some)
-      (λ met none. absurd none) fault.stage fault.fault
-      (leads-ended (appended_once moving) Before _ fault shown.1.shown) c.stopped.ensures
-      (sym (leads-stage (appended_once moving) Before _ fault shown.1.shown))
-      (λ failed. c.append_next.ensures.faults.failed (c.in-Err.is ∙ ap Err
-      (leads-failed (appended_once moving) Before _ fault shown.1.shown
-      (fault-outside fault.stage fault.fault failed))));
+      (λ met none. absurd none)
+      c.stopped.ensures (λ is. c.append_next.ensures.faults.failed (c.in-Err.is ∙ ap Err is));
   counts =
       let moving = c.args.moving in
       let some = some-left _ _ c.pieces.ensures c.if-pieces-eq0.false in

@@ -8,12 +8,10 @@ use Rattle.recovery.specs.Stands.{Recovers, HasStagedNext}
 use Rattle.suite_session.specs.declared.state.State.TheVariants.{Recovering, Moving}
 use Rattle.suite_session.proofs.LooksLemmas.{few-less}
 use Rattle.suite_session.proofs.StagingLemmas.{table-staged}
-use Rattle.suite_session.proofs.TurnLemmas.{may-step, goes-on, turns, faults}
-use Rattle.suite_session.proofs.CauseLemmas.{fault-outside}
+use Rattle.suite_session.proofs.TurnLemmas.{may-step, goes-on, leads-turns, leads-faults}
 use Rattle.suite_session.proofs.RecoveringTurns.{some-next}
-use Rattle.suite_session.proofs.LeadsLemmas.{leads-on, leads-stage, leads-failed}
+use Rattle.suite_session.proofs.LeadsLemmas.{leads-on}
 use Rattle.acct_outside.specs.declared.CommitStage.TheVariants.{Before}
-use Rattle.suite_session.proofs.MeetingLemmas.{quiet-on, leads-done, leads-ended}
 use Rattle.suite_session.proofs.CallsLemmas.{answers-fewer, recovering-some, staged-calls, some-left}
 use Rattle.suite_session.proofs.DueTextLemmas.{recovers-due}
 use Rattle.suite_session.proofs.recovering.recover.Goals as goal
@@ -34,24 +32,23 @@ returns-in-Ok g c = record {
       let due = recovers-due c.args.runner.now c.args.recovering shown.0 shown.2 in
       let is = leads-on (mover_of 1 c.args.recovering) before_commit _
       c.in-Ok.moving shown.1.shown in
-      let done = leads-done (mover_of 1 c.args.recovering) before_commit _
-      c.in-Ok.moving shown.1.shown in
-      turns before now c.args.runner.now Before (Recovers c.args.recovering)
+      leads-turns before now c.args.runner.now Before (Recovers c.args.recovering)
       c.requires.1
       c.args.recovering.keeper.token c.requires.0 (stages shown.0) due _ (λ result stood. refl)
       shown.1
+      (mover_of 1 c.args.recovering) before_commit c.in-Ok.moving shown.1.shown
+      (λ given one met shows. shows)
       c.stage_next.ensures.lawful c.stage_next.ensures.faults.never_falls
       (Recovering c.args.recovering)
       (Moving c.in-Ok.moving) (ap (next_or (removes Intent) stages) shown.2)
-      (quiet-on (stages shown.0) (λ given one met shows. shows) shown.1.answer done.0 _ _
-      done.1)
       (λ met none. absurd none) (
         ap (λ (one : Mover). one.keeper.token) is ∙ c.requires.0,
         subst (λ (one : Mover). 0 < length one.left) (sym is)
             (some-left _ _ c.left.ensures c.if-left-eq0.false),
         goes-on before now c.args.runner.now Before (Recovers c.args.recovering)
             c.requires.1
-            c.args.recovering.keeper.token c.requires.0 (stages shown.0) due _ (λ result stood. refl)
+            c.args.recovering.keeper.token c.requires.0 (stages shown.0) due _
+            (λ result stood. refl)
             shown.1
             (HasStagedNext c.in-Ok.moving) c.in-Ok.ensures.next,
       )
@@ -74,20 +71,16 @@ returns-in-Err g c = record {
       let shown = some-next c.args.recovering.left
       (some-left _ _ c.left.ensures c.if-left-eq0.false) c.in-Err.ensures.call in
       let due = recovers-due c.args.runner.now c.args.recovering shown.0 shown.2 in
-      let fault = c.in-Err.fault in
-      faults before now c.args.runner.now Before (Recovers c.args.recovering)
+      leads-faults before now c.args.runner.now Before (Recovers c.args.recovering)
       c.requires.1
       c.args.recovering.keeper.token c.requires.0 (stages shown.0) due _ (λ result stood. refl)
       shown.1
+      (mover_of 1 c.args.recovering) c.in-Err.fault shown.1.shown
       c.stage_next.ensures.lawful c.stage_next.ensures.faults.never_falls
       (Recovering c.args.recovering) c.stopped.result
       (ap (next_or (removes Intent) stages) shown.2)
-      (λ met none. absurd none) fault.stage fault.fault
-      (leads-ended (mover_of 1 c.args.recovering) Before _ fault shown.1.shown) c.stopped.ensures
-      (sym (leads-stage (mover_of 1 c.args.recovering) Before _ fault shown.1.shown))
-      (λ failed. c.stage_next.ensures.faults.failed (c.in-Err.is ∙ ap Err
-      (leads-failed (mover_of 1 c.args.recovering) Before _ fault shown.1.shown
-      (fault-outside fault.stage fault.fault failed))));
+      (λ met none. absurd none)
+      c.stopped.ensures (λ is. c.stage_next.ensures.faults.failed (c.in-Err.is ∙ ap Err is));
   counts =
       answers-fewer _ _ c.stopped.result c.stopped.ensures _ (recovering-some c.args.recovering)
       refl;

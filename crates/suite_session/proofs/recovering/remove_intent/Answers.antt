@@ -1,4 +1,4 @@
-use Rattle.std.proofs.Common.{refl, sym, ap, ◌∙◌, Err}
+use Rattle.std.proofs.Common.{refl, ap, ◌∙◌, Err}
 use Rattle.acct_outside.specs.declared.Name.TheVariants.{Intent}
 use Rattle.acct_outside.specs.Calls.{removes}
 use Rattle.recovery.specs.Stands.{Recovers}
@@ -8,13 +8,11 @@ use Rattle.lock_steps.specs.Stands.{Keeps, KnowsNoneYet}
 use Rattle.suite_session.specs.declared.state.State.TheVariants.{Recovering, Loading}
 use Rattle.commit_steps.specs.States.{start_of}
 use Rattle.suite_session.proofs.LooksLemmas.{few-less}
-use Rattle.suite_session.proofs.TurnLemmas.{may-step, goes-on, turns, faults}
-use Rattle.suite_session.proofs.CauseLemmas.{fault-outside}
+use Rattle.suite_session.proofs.TurnLemmas.{may-step, goes-on, leads-turns, leads-faults}
 use Rattle.suite_session.proofs.RecoveringTurns.{starts-loading}
-use Rattle.suite_session.proofs.LeadsLemmas.{leads-on, leads-stage, leads-failed}
+use Rattle.suite_session.proofs.LeadsLemmas.{leads-on}
 use Rattle.suite_rules.specs.Outcomes.{before_commit}
 use Rattle.acct_outside.specs.declared.CommitStage.TheVariants.{Before}
-use Rattle.suite_session.proofs.MeetingLemmas.{quiet-on, leads-done, leads-ended}
 use Rattle.suite_session.proofs.CallsLemmas.{answers-fewer, recovering-some, removed-calls}
 use Rattle.suite_session.proofs.recovering.remove_intent.Goals as goal
 
@@ -31,20 +29,17 @@ returns-in-Ok g c = record {
       let now = g.F.Folder.moment c.remove_intent.new.folder in
       let is = leads-on c.args.recovering.keeper before_commit _ c.in-Ok.keeper
       c.in-Ok.ensures.call.shown in
-      let done = leads-done c.args.recovering.keeper before_commit _ c.in-Ok.keeper
-      c.in-Ok.ensures.call.shown in
       rw c.start.ensures
-      (turns before now c.args.runner.now Before (Recovers c.args.recovering)
+      (leads-turns before now c.args.runner.now Before (Recovers c.args.recovering)
       c.requires.stands.1
       c.args.recovering.keeper.token c.requires.stands.0 (removes Intent) tt _
       (λ result stood. refl)
       c.in-Ok.ensures.call
+      c.args.recovering.keeper before_commit c.in-Ok.keeper c.in-Ok.ensures.call.shown
+      (λ given one met shows. shows)
       c.remove_intent.ensures.lawful c.remove_intent.ensures.faults.never_falls
       (Recovering c.args.recovering) (Loading (start_of c.in-Ok.keeper))
       (recovers-none c.args.recovering c.requires.none)
-      (quiet-on (removes Intent) (λ given one met shows. shows) c.in-Ok.ensures.call.answer done.0 _
-      _
-      done.1)
       (λ met none. absurd none) (
         ap (λ (one : Kept). one.token) is ∙ c.requires.stands.0,
         starts-loading now c.args.runner.now c.in-Ok.keeper
@@ -68,23 +63,17 @@ returns-in-Err g c = record {
   turns =
       let before = g.F.Folder.moment c.args.folder.now in
       let now = g.F.Folder.moment c.remove_intent.new.folder in
-      let fault = c.in-Err.fault in
-      faults before now c.args.runner.now Before (Recovers c.args.recovering)
+      leads-faults before now c.args.runner.now Before (Recovers c.args.recovering)
       c.requires.stands.1
       c.args.recovering.keeper.token c.requires.stands.0 (removes Intent) tt _
       (λ result stood. refl)
       c.in-Err.ensures.call
+      c.args.recovering.keeper c.in-Err.fault c.in-Err.ensures.call.shown
       c.remove_intent.ensures.lawful c.remove_intent.ensures.faults.never_falls
       (Recovering c.args.recovering) c.stopped.result
       (recovers-none c.args.recovering c.requires.none)
-      (λ met none. absurd none) fault.stage fault.fault
-      (leads-ended c.args.recovering.keeper Before _ fault c.in-Err.ensures.call.shown)
-      c.stopped.ensures
-      (sym (leads-stage c.args.recovering.keeper Before _ fault
-      c.in-Err.ensures.call.shown))
-      (λ failed. c.remove_intent.ensures.faults.failed (c.in-Err.is ∙ ap Err
-      (leads-failed c.args.recovering.keeper Before _ fault c.in-Err.ensures.call.shown
-      (fault-outside fault.stage fault.fault failed))));
+      (λ met none. absurd none)
+      c.stopped.ensures (λ is. c.remove_intent.ensures.faults.failed (c.in-Err.is ∙ ap Err is));
   counts =
       answers-fewer _ _ c.stopped.result c.stopped.ensures _ (recovering-some c.args.recovering)
       refl;

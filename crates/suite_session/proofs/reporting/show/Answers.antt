@@ -11,7 +11,7 @@ use Rattle.suite_session.proofs.ReportMeeting.{outrun-ends, outrun-met, reported
 use Rattle.suite_session.proofs.ReportReads.{gathers-last}
 use Rattle.suite_session.proofs.ReportingTurns.{reported-calls, reported-quiet, reported-stands}
 use Rattle.suite_session.proofs.LooksLemmas.{reported-less}
-use Rattle.suite_session.proofs.TurnLemmas.{ended, got, may-step, stops, turns, unkept-left}
+use Rattle.suite_session.proofs.TurnLemmas.{ends, may-step, turns}
 use Rattle.suite_session.proofs.reporting.show.Goals as goal
 
 pub confirm-requires : goal.confirm-requires
@@ -56,25 +56,17 @@ returns-in-Err g c = record {
       let before = g.F.Folder.moment c.args.folder.now in
       let now = g.F.Folder.moment c.confirm.new.folder in
       let reading = c.args.reading in
-      stops before now c.args.runner.now Before (HasGathered reading) c.requires.stands.1
+      ends before now c.args.runner.now Before (HasGathered reading) c.requires.stands.1
       reading.token c.requires.stands.0 lists tt _ (λ result stood. refl) c.in-Err.ensures.call
       c.confirm.ensures.lawful c.confirm.ensures.faults.never_falls
       (Gathering reading) c.stopped.result (gathers-last reading c.requires.read)
-      (outrun-ends c.args.runner.now c.stopped.result reading c.in-Err.ensures.call.answer
-      c.in-Err.end c.in-Err.ensures.call.shown c.stopped.ensures)
+      (outrun-ends c.args.runner.now c.stopped.result reading _ c.in-Err.end
+      c.in-Err.ensures.call.shown c.stopped.ensures)
       (λ met none. absurd none)
       (cause_of_end c.in-Err.end) c.stopped.ensures (end-plain c.in-Err.end)
-      (outrun-met c.args.runner.now now.told reading c.in-Err.ensures.call.answer c.in-Err.end
-      c.requires.stands.2 c.in-Err.ensures.call.shown
-      (got before now c.args.runner.now Before (HasGathered reading) c.requires.stands.1
-      reading.token c.requires.stands.0 lists tt _ (λ result stood. refl) c.in-Err.ensures.call)
-      (ended before now c.args.runner.now Before (HasGathered reading) c.requires.stands.1
-      reading.token c.requires.stands.0 lists tt _ (λ result stood. refl) c.in-Err.ensures.call
-      Before))
-      (unkept-left before now c.args.runner.now Before (HasGathered reading) c.requires.stands.1
-      reading.token c.requires.stands.0 lists tt _ (λ result stood. refl) c.in-Err.ensures.call _
-      (outrun-unkept reading c.in-Err.ensures.call.answer c.in-Err.end
-      c.in-Err.ensures.call.shown))
+      (outrun-met c.args.runner.now now.told reading _ c.in-Err.end c.requires.stands.2
+      c.in-Err.ensures.call.shown)
+      (outrun-unkept reading _ c.in-Err.end c.in-Err.ensures.call.shown)
       (sym (end-stage c.in-Err.end))
       (λ fault. c.confirm.ensures.faults.failed
       (c.in-Err.is ∙ ap Err (end-failed c.in-Err.end fault))) tt;
