@@ -9,7 +9,7 @@ ghost use Rattle.command_values.specs.Options.{value_at};
 
 use crate::read_id;
 use account_model::{Given, Kind, Tool};
-use acct_text::{Bytes, Names};
+use acct_text::Names;
 use option_words::Parsed;
 use std::alloc::{AllocError, Global};
 use std::marker::Model;
@@ -38,18 +38,6 @@ impl<'a> Asked<'a> {
         ensures { result ≡ request_in parsed.now }
     {
         Asked { parsed }
-    }
-
-    /// What the words of a command ask for, of a tool that reads no input. It allocates nothing, and
-    /// so it has no error.
-    pub fn from_words(
-        _alloc: Global,
-        parsed: &'a Parsed,
-        _input: &Bytes,
-    ) -> Result<Self, AllocError>
-        ensures { IfOk result (λ asked. asked ≡ request_in parsed.now) }
-    {
-        Ok(Asked::of(parsed))
     }
 }
 
