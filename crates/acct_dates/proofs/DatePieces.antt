@@ -43,20 +43,6 @@ one-piece text piece e =
 
 -- ---- The pieces of a date
 
--- the first piece isn't a year
-pub no-year :
-    (year : List ℕ) (rest : List (List ℕ))
-    → are_digits 4 year ≡ false
-    → read_date_pieces (year ∷ rest) ≡ Err no_day_shape
-no-year year [] e = refl
-no-year year (month ∷ []) e = refl
-no-year year (month ∷ day ∷ []) e = rw e refl
-no-year year (month ∷ day ∷ more ∷ rest) e = refl
-
--- a year without a month behind it
-pub no-rest : (year rest : List ℕ) → read_date_pieces (year ∷ rest ∷ []) ≡ Err no_day_shape
-no-rest year rest = refl
-
 -- the tests of three pieces, where the second fails
 second-fails : (first third : Bool) → (first && false && third) ≡ false
 second-fails true third = refl

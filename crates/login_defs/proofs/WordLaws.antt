@@ -41,11 +41,6 @@ first-or-end test text = elim (cases_Bool (nat_lt (position_or_len test text) (l
       rw past same
 ]
 
--- no word in nothing
-no-words : (text : List ℕ) → length text ≤ 0 → words_of text ≡ []
-no-words [] empty = refl
-no-words (byte ∷ text) empty = absurd (omega arith)
-
 -- a piece before others is kept where it isn't empty
 kept-first :
     (piece : List ℕ) (pieces : List (List ℕ))
