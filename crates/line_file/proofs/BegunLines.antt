@@ -21,12 +21,12 @@ use Rattle.line_file.proofs.PlacedCells.{AreElsewhere, before-elsewhere, behind-
 -- ---- A place where a line begins
 
 -- the lines of a file are cut at a place
-record IsBegun (text : List ℕ) (place : ℕ) : Type 0 where
+pub record IsBegun (text : List ℕ) (place : ℕ) : Type 0 where
   -- the lines in front
-  front : List Line
-  cut : lines_of text ≡ front ++ lines_of (drop place text)
-  ended : AreEnded front
-  size : length (file_bytes front) ≡ place
+  pub front : List Line
+  pub cut : lines_of text ≡ front ++ lines_of (drop place text)
+  pub ended : AreEnded front
+  pub size : length (file_bytes front) ≡ place
 
 -- at the first one
 first-begun : (text : List ℕ) → IsBegun text 0
@@ -52,7 +52,7 @@ behind-begun text before inside at =
     }
 
 -- by what stands in front of it
-begun-at :
+pub begun-at :
     (text : List ℕ) (place : ℕ) (is_first : Bool)
     → place < length text
     → (place == 0) ≡ is_first

@@ -23,7 +23,7 @@ GoUp from [] = ⊤
 GoUp from (place ∷ places) = (from ≤ place) × GoUp (place + 1) places
 
 -- they go up from an earlier one on too
-lower : (from to : ℕ) (places : List ℕ) → from ≤ to → GoUp to places → GoUp from places
+pub lower : (from to : ℕ) (places : List ℕ) → from ≤ to → GoUp to places → GoUp from places
 lower from to [] low up = tt
 lower from to (place ∷ places) low up = (omega (arith, up.0), up.1)
 

@@ -1,12 +1,15 @@
 -- How the cells of a file are kept: the file's bytes, what was put into places of it, and the lines
 -- that were added (passwd(5), and likewise the other five tables).
-use Rattle.std.specs.Prelude.{◌≡◌, ◌≢◌, ℕ, ◌+◌, ◌^◌, ◌<◌, ◌-◌, ◌==◌, nat_le, get_or, Bool, true, false, ◌||◌, List, [], ◌∷◌, ◌++◌, length, map, Option, None, Some, nat_eq}
+use Rattle.std.specs.Prelude.{◌≡◌, ◌≢◌, ℕ, ◌+◌, ◌^◌, ◌<◌, ◌≤◌, ◌-◌, ◌==◌, nat_le, get_or, Bool, true, false, ◌||◌, List, [], ◌∷◌, ◌++◌, length, map, Option, None, Some, nat_eq}
 use Rattle.std.specs.HashMap.{HashMap, get}
 use Rattle.acct_text.specs.Bytes.{newline}
 use Rattle.acct_text.specs.Lines.{Line, file_bytes, lines_of}
+use Rattle.account_model.specs.Ids.{is_used}
+use Rattle.acct_tables.specs.SeenLines.{seen_line}
 use Rattle.acct_tables.specs.declared.lines.FileLine.{FileLine}
 use Rattle.line_file.specs.declared.cell.Cell.{Cell}
 use Rattle.line_file.specs.declared.patch.Patch.{Patch}
+use Rattle.line_file.specs.declared.text_between.Cut.{Cut}
 use Rattle.line_file.specs.Cells.{cells_from}
 
 -- ---- What was put into places
@@ -82,3 +85,18 @@ line_cell place line =
 -- whether a byte of a file with these bytes is the first one, or stands behind an end
 abbrev pub begins_line : ℕ → List ℕ → Bool
 begins_line place text = place == 0 || get_or text (place - 1) 0 == newline
+
+-- ---- The places into which texts were put
+
+-- each from this place on is one of these
+abbrev pub AreTold : Patches → ℕ → List ℕ → Type 0
+AreTold patches from places =
+    (place : ℕ) → from ≤ place → is_used places place ≡ false → patches place ≡ None
+
+-- a text whose first line is at a place, cut where a line begins at another
+pub record IsCut (first place : ℕ) (text : List ℕ) (cut : Cut) : Type 0 where
+  -- the lines in front
+  pub front : List Line
+  pub lines : lines_of text ≡ front ++ seen_line cut.line ∷ lines_of cut.behind.now
+  pub bytes : cut.front.now ≡ file_bytes front
+  pub place_is : first + length (file_bytes front) ≡ place

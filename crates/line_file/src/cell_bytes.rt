@@ -20,13 +20,3 @@ pub(crate) fn push_lines(cell: Cell<'_>, text: &mut Bytes) -> Result<(), AllocEr
     }
     Ok(())
 }
-
-/// As many bytes as the lines have at most, each with its newline.
-pub(crate) fn most_bytes(cell: Cell<'_>) -> usize {
-    let mut most: usize = 0;
-    let mut left = cell.texts;
-    'texts: while let Some(line) = left.take() {
-        most = most.saturating_add(line.len()).saturating_add(1);
-    }
-    most
-}

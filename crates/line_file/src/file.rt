@@ -5,10 +5,10 @@ ghost use Rattle.acct_text.specs.Lines.{file_bytes, lines_of};
 ghost use Rattle.acct_tables.specs.Marks.{marks_in};
 ghost use Rattle.line_file.specs.Cells.{AreMarked, ArePlaced, cell_at, cells_from, lines_now, text_added, texts_put};
 
-use crate::cell_bytes::{most_bytes, push_lines};
 use crate::line_at::line_at;
 use crate::marked::marked_in;
 use crate::patch::{Patch, added_cell, cell_of, put_at, put_texts};
+use crate::text_between::text_between;
 use crate::{Cell, Cells};
 use acct_tables::{Lines, Marks};
 use acct_text::Bytes;
@@ -143,12 +143,13 @@ impl LineFile {
         if let Some(text) = self.kept_text() {
             return Bytes::of(*self.added.allocator(), text);
         }
-        let mut text = Bytes::with_room(*self.added.allocator(), self.room())?;
-        let mut left = self.cells();
-        'cells: while let Some(cell) = left.take() {
-            push_lines(cell, &mut text)?;
-        }
-        Ok(text)
+        text_between(
+            *self.added.allocator(),
+            self.text.as_slice(),
+            &self.patched,
+            self.are_ended,
+            self.added.as_slice(),
+        )
     }
 
     // The bytes of the file where nothing was put into it and nothing added.
@@ -160,15 +161,5 @@ impl LineFile {
             return None;
         }
         Some(self.text.as_slice())
-    }
-
-    // So many bytes are those of the lines that stand now.
-    fn room(&self) -> usize {
-        let mut room: usize = 0;
-        let mut left = self.cells();
-        'cells: while let Some(cell) = left.take() {
-            room = room.saturating_add(most_bytes(cell));
-        }
-        room
     }
 }

@@ -3,7 +3,8 @@
 //!
 //! A line is known by its place, the offset of its first byte in the file, and stays where it is in the
 //! file's bytes until other texts are put into its place: one, none or several. A line that is added
-//! has a place behind the file. So a look-up or an edit at a place takes no pass over the lines.
+//! has a place behind the file. So a look-up or an edit at a place takes no pass over the lines, and what
+//! stands between the places that were edited is copied at once (`text_between`).
 #![tactic(auto)]
 
 mod cell;
@@ -13,6 +14,7 @@ mod file;
 mod line_at;
 mod marked;
 mod patch;
+mod text_between;
 
 pub use cell::{Cell, Texts};
 pub use cells::Cells;

@@ -22,8 +22,8 @@ pub(crate) fn line_at(text: &[u8], place: usize) -> Option<FileLine<'_>>
     }
 }
 
-// Whether this byte of a file is the first one, or stands behind an end.
-fn begins_line(text: &[u8], place: usize) -> bool
+/// Whether this byte of a file is the first one, or stands behind an end.
+pub(crate) fn begins_line(text: &[u8], place: usize) -> bool
     requires { place < length text.now }
     ensures { result ≡ kept.begins_line place text.now }
 {

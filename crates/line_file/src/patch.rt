@@ -1,5 +1,5 @@
 // What was put into the place of a line of a file, and what stands there then.
-ghost use Rattle.std.specs.Prelude.{◌≡◌, ◌||◌, nat_le, length, map, option_map, set, slice_get, OnErr, OnOk};
+ghost use Rattle.std.specs.Prelude.{◌≡◌, ◌||◌, nat_le, map, option_map, set, slice_get, OnErr, OnOk};
 ghost use Rattle.std.specs.HashMap.{IsUnchanged};
 ghost use Rattle.std.specs.Option.{option_copied};
 ghost use Rattle.std.specs.Vec.{vec_items};

@@ -121,10 +121,10 @@ impl<R: KeyedRecord + Drop> KeyedCells<R> {
         ensures { OnOk result (lines_now self.new
             ≡ edited R.format (lines_now self.old) (model.AddMissing item.now)) }
     {
-        if self.has(item.name()) {
-            return Ok(());
+        match self.place_named(alloc, item.name())? {
+            Some(_place) => Ok(()),
+            None => self.add(alloc, item),
         }
-        self.add(alloc, item)
     }
 
     // Puts the record in place of the first of its name, or adds it.

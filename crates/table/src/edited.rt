@@ -57,5 +57,5 @@ fn renewed<R: KeyedRecord + Drop>(
         return Ok(cells);
     }
     let text = cells.text()?;
-    KeyedCells::of(alloc, text)
+    KeyedCells::made(alloc, text, cells.is_indexed)
 }

@@ -1,18 +1,20 @@
 // Records of a table's file by passes over its bytes, and its edits (passwd(5), shadow(5), group(5),
 // gshadow(5), subuid(5), subgid(5)).
 ghost use Rattle.std.specs.Prelude.{◌≡◌, filter, IfOk};
-ghost use Rattle.acct_text.specs.Lines.{lines_of};
+ghost use Rattle.acct_text.specs.Lines.{file_bytes, lines_of};
+ghost use Rattle.account_model.specs.Edits.{edited_by};
 ghost use Rattle.account_model.specs.Format.{is_named, records_of};
 ghost use Rattle.account_model.specs.Tables.{table_records};
-ghost use Rattle.line_file.specs.Cells.{cells_from};
+ghost use Rattle.line_edits.specs.SeenEdits.{seen_edits};
 ghost use Rattle.table.specs.TableEdits.{AreWritten, multiple_by, table_by};
 
+use crate::edited::edited;
 use crate::keyed_cells::KeyedCells;
 use crate::named_texts::push_named;
 use crate::search::text_of;
 use acct_tables::{Lines, MANY, Marks, from_marks};
 use acct_text::Bytes;
-use line_edits::{ChangedNames, Edit, edited_text};
+use line_edits::{ChangedNames, Edit};
 use record_keys::KeyedRecord;
 use std::alloc::{AllocError, Global};
 
@@ -44,26 +46,13 @@ pub(crate) fn multiple_in<R: KeyedRecord + Drop>(
         multiple_by R.format R.becomes edits.now (records_of R.format (lines_of text.now))) }
 {
     let copy = Bytes::of(alloc, text.as_slice())?;
-    let cells = cells_for(alloc, copy, edits)?;
+    let cells = KeyedCells::made(alloc, copy, are_many::<R>(text.as_slice(), edits))?;
     cells.first_multiple(alloc, edits)
 }
 
-// The lines of a file, with an index where the edits are many or may touch many records.
-fn cells_for<R: KeyedRecord + Drop>(
-    alloc: Global,
-    text: Bytes,
-    edits: &[Edit<R, R::Change>],
-) -> Result<KeyedCells<R>, AllocError>
-    ensures { IfOk result (λ cells. cells ≡ cells_from 0 (lines_of text)) }
-{
-    if edits.len() >= MANY
-        || edits
-            .iter()
-            .any(|edit| may_touch_many::<R>(text.as_slice(), edit))
-    {
-        return KeyedCells::of(alloc, text);
-    }
-    KeyedCells::untold(alloc, text)
+// Whether the edits are many, or may touch many records, so that an index saves time.
+fn are_many<R: KeyedRecord>(text: &[u8], edits: &[Edit<R, R::Change>]) -> bool {
+    edits.len() >= MANY || edits.iter().any(|edit| may_touch_many::<R>(text, edit))
 }
 
 // Whether the edit may touch many records, of more than one name.
@@ -92,6 +81,20 @@ fn are_many_marked(text: &[u8], marks: Marks<'_>) -> bool {
     false
 }
 
+// The bytes of a file after the edits, in their order.
+fn edited_in<R: KeyedRecord + Drop>(
+    alloc: Global,
+    text: Bytes,
+    edits: &[Edit<R, R::Change>],
+) -> Result<Bytes, AllocError>
+    requires { AreWritten R.format R.becomes edits.now }
+    ensures { IfOk result (λ bytes. bytes ≡ file_bytes
+        (edited_by R.format (seen_edits R.becomes edits.now) (lines_of text))) }
+{
+    let cells = edited(alloc, KeyedCells::untold(alloc, text)?, edits)?;
+    cells.text()
+}
+
 /// The file after the edits, in their order; an absent one stays absent.
 pub(crate) fn edited_file<R: KeyedRecord + Drop>(
     alloc: Global,
@@ -102,7 +105,7 @@ pub(crate) fn edited_file<R: KeyedRecord + Drop>(
     ensures { IfOk result (λ edited. edited ≡ table_by R.format R.becomes edits.now file) }
 {
     match file {
-        Some(text) => Ok(Some(edited_text(alloc, text.as_slice(), edits)?)),
+        Some(text) => Ok(Some(edited_in(alloc, text, edits)?)),
         None => Ok(None),
     }
 }

@@ -33,7 +33,7 @@ pub(crate) struct KeyedCells<R: KeyedRecord> {
     pub(crate) file: LineFile,
     pub(crate) keys: KeyPlaces,
     // whether the index tells of the records, as it does unless it lacks memory
-    is_indexed: bool,
+    pub(crate) is_indexed: bool,
     // so many bytes had the file
     bytes: usize,
     // edits came to so many places by keys
@@ -101,10 +101,22 @@ impl<R: KeyedRecord + Drop> KeyedCells<R> {
         })
     }
 
-    /// Whether it is time to make the lines anew, without the places where no text is left. It takes no
-    /// longer than the edits by keys did that came to places since the lines were made.
+    /// The lines, with an index or without.
+    pub(crate) fn made(alloc: Global, text: Bytes, is_indexed: bool) -> Result<Self, AllocError>
+        ensures { IfOk result (λ cells. cells ≡ cells_from 0 (lines_of text)) }
+    {
+        if is_indexed {
+            KeyedCells::of(alloc, text)
+        } else {
+            KeyedCells::untold(alloc, text)
+        }
+    }
+
+    /// Whether it is time to make the lines anew: without an index always, as marks tell places in a text;
+    /// with one now and then, without the places where no text is left. That takes no longer than the edits
+    /// by keys did that came to places since the lines were made.
     pub(crate) fn is_worn(&self) -> bool {
-        self.worn > self.bytes / 64 + 64
+        !self.is_indexed || self.worn > self.bytes / 64 + 64
     }
 
     /// The bytes of the lines, one behind the other.

@@ -6,9 +6,11 @@
 //! may have it (`record_keys`, gathered by `gathering`). A look-up or an edit reads the texts in the places
 //! of its key, one after another (`texts_there`): they are few, and no other text is a record with the
 //! key. `keyed_cells` looks up by names and tests (`named_texts`), `cell_edits` puts new texts
-//! (`new_texts`), and `multiple` finds the first record that edits touch and whose name has several: where
-//! there is no index, in the places of lines that have marks of an edit. `edited` makes the lines anew now
-//! and then.
+//! (`new_texts`), and `multiple` finds the first record that edits touch and whose name has several.
+//! `edited` makes the lines anew now and then.
+//!
+//! Where there is no index, edits go to the places of lines that have marks of them, and each makes the
+//! file anew.
 //!
 //! `search` finds the first record of a file that passes a test.
 #![tactic(auto)]

@@ -8,9 +8,9 @@ use Rattle.table.proofs.edited.renewed.Goals as goal
 -- the text has the same lines
 pub returns : goal.returns
 returns g c =
-    IfOk-weaker c.of.result _ _ (λ made is.
+    IfOk-weaker c.made.result _ _ (λ made is.
     ap lines_now is
     ∙ start-lines 0 (lines_of c.in_ok-text.text)
     ∙ ap lines_of c.in_ok-text.ensures
     ∙ c.requires)
-    c.of.ensures
+    c.made.ensures
