@@ -22,8 +22,9 @@ use acct_lines::{SubidLine, SubidRecord};
 use acct_tables::{FileLine, Lines, is_owner};
 use acct_text::Bytes;
 use id_choice::{Run, Runs};
-use line_edits::{Edit, RangeCut, SubidChange, edited_text};
+use line_edits::{Edit, RangeCut, SubidChange};
 use std::alloc::{AllocError, Global};
+use table::edited_text;
 
 /// IDs that go out of the ranges of one owner, by edits that follow one another.
 #[derive(Drop)]

@@ -1,22 +1,16 @@
--- Claim: what is done with the line at a place is what the record there becomes (`change-other`), and what
--- is done with a line alone too (`left-line`, `other-line`, `record-line`, `same-line`). Way: the line at
--- the place reads as the record that was found there (`record-here`), so it becomes what `line_becomes`
--- says of it (`becomes-read`).
-use Rattle.std.proofs.Common.{◌≡◌, ℕ, ◌+◌, ◌<◌, Bool, true, false, List, [], ◌∷◌, length, map, drop, refl, sym, ◌∙◌, ap, inl, inr, append-nil}
+-- Claim: a line that a change leaves, and one that is no record, become themselves (`left-line`,
+-- `other-line`), and that of a record what becomes of the record (`record-line`, `same-line`). Way: by what
+-- the line reads as.
+use Rattle.std.proofs.Common.{◌≡◌, ℕ, Bool, true, false, List, [], ◌∷◌, refl, sym, ◌∙◌, ap, inl, inr, append-nil}
 use Rattle.std.specs.Prelude.{bytes_eq, Option, Some, None, if◌then◌else◌}
 use Rattle.std.proofs.lemmas.Bool.{cases_Bool, false_from_ne_true}
-use Rattle.std.proofs.lemmas.List.{drop_more}
 use Rattle.std.proofs.lemmas.Slice.Eq.{bytes_eq-Decides}
 use Rattle.acct_text.specs.Lines.{Line, file_bytes, line_bytes}
 use Rattle.account_model.specs.Format.{Format}
 use Rattle.account_model.specs.Edits.{becomes, line_becomes}
 use Rattle.account_model.specs.RecordEdits.{TellsSame}
 use Rattle.account_model.specs.Written.{IsWritten}
-use Rattle.acct_tables.specs.TableLines.{record_at}
-use Rattle.acct_tables.proofs.LinesHere.{blank_line, line_here, record-here}
 use Rattle.line_edits.specs.Naming.{Leaves}
-use Rattle.line_edits.specs.Places.{spliced_at}
-use Rattle.line_edits.proofs.Splices.{spliced-same}
 
 module _ {R : Type 0} (format : Format R) where
   -- a line of which the record becomes others
@@ -70,56 +64,6 @@ module _ {R : Type 0} (format : Format R) where
             (bytes_eq-Decides text kept).1 (printed ∙ ap format.print (sym one) ∙ is) in cc)
             ∙ sym apart
       ]
-
-  module _ (f : R → List R) (lines : List Line) (place : ℕ) (inside : place < length lines) where
-    -- the lines from the place on
-    from-here : drop place lines ≡ line_here lines place ∷ drop (place + 1) lines
-    from-here = drop_more lines place blank_line inside
-
-    -- other text stays
-    pub change-other :
-        record_at format lines place ≡ None → lines ≡ spliced_at (becomes format f) place lines
-    change-other none =
-        let line = line_here lines place in
-        sym (spliced-same (becomes format f) lines place line from-here
-        (ap (λ kept. elim kept [ None ↦ line ∷ [] | Some r ↦ line_becomes format line r (f r) ])
-        (sym (record-here format lines place inside) ∙ none)))
-
-    -- by what record the line has, if any
-    left-by :
-        (found : Option R)
-        → record_at format lines place ≡ found
-        → TellsSame format
-        → ((r : R) → found ≡ Some r → f r ≡ r ∷ [])
-        → lines ≡ spliced_at (becomes format f) place lines
-    left-by None is tells left = change-other is
-    left-by (Some r) is tells left =
-        let line = line_here lines place in
-        sym (spliced-same (becomes format f) lines place line from-here
-        (becomes-read f line (format.read line.text) r
-        (sym (record-here format lines place inside) ∙ is)
-        ∙ ap (line_becomes format line r) (left r refl)
-        ∙ stays line r (format.same r r) ((tells r r).1 refl)))
-
-    module _ (r : R) (found : record_at format lines place ≡ Some r) where
-      -- the line becomes what its record becomes
-      becomes-here :
-          becomes format f (line_here lines place)
-          ≡ line_becomes format (line_here lines place) r (f r)
-      becomes-here =
-          becomes-read f (line_here lines place) (format.read (line_here lines place).text) r
-          (sym (record-here format lines place inside) ∙ found)
-
--- ---- A change that leaves names
-
--- doesn't take a record away
-pub none-named :
-    {R : Type 0} (format : Format R) (f : R → List R) (r : R)
-    → map format.name (f r) ≡ format.name r ∷ []
-    → f r ≡ []
-    → ⊥
-none-named format f r named none =
-    let one : [] ≡ format.name r ∷ [] = sym (ap (map format.name) none) ∙ named in absurd cc
 
 -- ---- The bytes of a line
 

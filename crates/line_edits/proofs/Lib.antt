@@ -1,7 +1,5 @@
-pub mod Splices
 pub mod ChangedLines
 pub mod OpenLemmas
-pub mod PutLines
 pub mod EditLists
 pub mod LeftLemmas
 pub mod NamingLemmas

@@ -1,13 +1,12 @@
-//! What an edit makes of the lines of one table's file (passwd(5), shadow(5), group(5), gshadow(5),
-//! subuid(5), subgid(5)).
+//! What edits make of the records of one table (passwd(5), shadow(5), group(5), gshadow(5), subuid(5),
+//! subgid(5)).
 //!
 //! `edit` has the edits of a table as data, and what a record has so that they can be made of it;
 //! `group_changes` and its like what becomes of a record, and `joined_texts` what becomes of a group's
-//! line by its parts alone. `touching` tells whether an edit touches the record of a line. `applied`
-//! carries edits out in the text of a file, one after another, each change by `line_changes`.
+//! line by its parts alone. `touching` tells whether an edit touches the record of a line. `line_changes`
+//! makes a change in the text of a file.
 #![tactic(auto)]
 
-mod applied;
 mod changed_names;
 mod edit;
 mod fields;
@@ -25,7 +24,6 @@ mod shadow_changes;
 mod subid_changes;
 mod touching;
 
-pub use applied::edited_text;
 pub use changed_names::ChangedNames;
 pub use edit::{Becoming, Edit, EditedRecord, Rewritten};
 pub use fields::leaves_name;

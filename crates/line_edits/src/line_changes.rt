@@ -175,23 +175,3 @@ fn push_new<R: EditedRecord + Drop>(
     made.push(text.as_slice())?;
     made.push(b"\n")
 }
-
-/// Adds the line with the record in place of its own.
-pub(crate) fn push_record<R: EditedRecord + Drop>(
-    alloc: Global,
-    made: &mut Bytes,
-    line: &FileLine<'_>,
-    item: &R,
-) -> Result<(), AllocError>
-    requires one_line { Lacks newline line.now.text.now }
-    requires written { IsWritten R.format item.now }
-    ensures { OnOk result ((old : R) → R.format.read line.now.text.now ≡ Some old
-        → made.new ≡ made.old ++ file_bytes
-        (line_becomes R.format (seen_line line.now) old (item.now ∷ []))) }
-{
-    let Some(old) = read_record::<R>(alloc, line.text)? else {
-        return Ok(());
-    };
-    let kept = old.print(alloc)?;
-    push_instead(alloc, made, line, kept.as_slice(), item)
-}

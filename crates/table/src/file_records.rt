@@ -81,7 +81,20 @@ fn are_many_marked(text: &[u8], marks: Marks<'_>) -> bool {
     false
 }
 
-// The bytes of a file after the edits, in their order.
+/// The bytes of a file after the edits, in their order: the lines that they don't touch keep their bytes.
+pub fn edited_text<R: KeyedRecord + Drop>(
+    alloc: Global,
+    text: &[u8],
+    edits: &[Edit<R, R::Change>],
+) -> Result<Bytes, AllocError>
+    requires { AreWritten R.format R.becomes edits.now }
+    ensures { IfOk result (λ bytes. bytes ≡ file_bytes
+        (edited_by R.format (seen_edits R.becomes edits.now) (lines_of text.now))) }
+{
+    edited_in(alloc, Bytes::of(alloc, text)?, edits)
+}
+
+// The same of a file whose bytes are given away.
 fn edited_in<R: KeyedRecord + Drop>(
     alloc: Global,
     text: Bytes,

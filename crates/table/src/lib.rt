@@ -10,7 +10,7 @@
 //! `edited` makes the lines anew now and then.
 //!
 //! Where there is no index, edits go to the places of lines that have marks of them, and each makes the
-//! file anew.
+//! file anew (`edited_text`).
 //!
 //! `search` finds the first record of a file that passes a test.
 #![tactic(auto)]
@@ -28,6 +28,7 @@ mod search;
 mod table;
 mod texts_there;
 
+pub use file_records::edited_text;
 pub use files::{SeenFile, copy_of};
 pub use search::{OfGid, RecordTest, text_of};
 pub use table::Table;
