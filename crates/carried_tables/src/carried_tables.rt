@@ -1,6 +1,8 @@
 // The tables that commands carry from one to the next (passwd(5), shadow(5), group(5), gshadow(5),
 // subuid(5), subgid(5)).
-ghost use Rattle.std.specs.Prelude.{◌≡◌, IfOk, OnOk};
+ghost use Rattle.std.specs.Prelude.{◌≡◌, ◌++◌, [], ℕ, List, Option, is_some, IfOk, OnOk};
+ghost use Rattle.acct_text.specs.ChangedTables.{changed_bytes, changed_tables, with_new_table};
+ghost use Rattle.acct_text.specs.Files.{table_of};
 ghost use Rattle.account_model.specs.Records.{group_format, gshadow_format, passwd_format, shadow_format, subid_format};
 ghost use Rattle.line_edits.specs.GroupChanges.{group_becomes};
 ghost use Rattle.line_edits.specs.GshadowChanges.{gshadow_becomes};
@@ -8,29 +10,30 @@ ghost use Rattle.line_edits.specs.PasswdChanges.{passwd_becomes};
 ghost use Rattle.line_edits.specs.ShadowChanges.{shadow_becomes};
 ghost use Rattle.line_edits.specs.SubidChanges.{subid_becomes};
 ghost use Rattle.table.specs.TableEdits.{AreWritten, table_by};
+ghost use Rattle.carried_tables.specs.Changes.{StandWhere};
 
 use crate::{IdTable, RangeTable};
 use acct_lines::{GroupRecord, GshadowRecord, PasswdRecord, ShadowRecord, SubidRecord};
-use acct_text::Files;
+use acct_text::{Bytes, Files, NewTables, Tab};
 use line_edits::{Edit, GroupChange, GshadowChange, PasswdChange, ShadowChange, SubidChange};
 use std::alloc::{AllocError, Global};
 use std::marker::Model;
-use table::{Table, copy_of};
+use table::Table;
 
 /// The six tables. Where an index is asked for, a command takes no pass over all records of a table for
 /// what it looks up by name, for the IDs that are used, and for edits of records that it names. Contracts
 /// see them as the files.
-pub struct CarriedTables {
-    passwd: IdTable<PasswdRecord>,
-    shadow: Table<ShadowRecord>,
-    group: IdTable<GroupRecord>,
-    gshadow: Table<GshadowRecord>,
-    subuid: RangeTable,
-    subgid: RangeTable,
+pub struct CarriedTables<'a> {
+    passwd: IdTable<'a, PasswdRecord>,
+    shadow: Table<'a, ShadowRecord>,
+    group: IdTable<'a, GroupRecord>,
+    gshadow: Table<'a, GshadowRecord>,
+    subuid: RangeTable<'a>,
+    subgid: RangeTable<'a>,
 }
 
 // One call, so that who holds the tables has no walk through all that they own on each way out.
-impl Drop for CarriedTables {
+impl<'a> Drop for CarriedTables<'a> {
     fn drop(self) {
         let CarriedTables {
             passwd: _,
@@ -43,7 +46,7 @@ impl Drop for CarriedTables {
     }
 }
 
-impl Model for CarriedTables {
+impl<'a> Model for CarriedTables<'a> {
     ghost use Rattle.acct_text.specs.declared.files.Files.{Files};
 
     ghost Value = { Files };
@@ -58,35 +61,19 @@ impl Model for CarriedTables {
     } };
 }
 
-impl CarriedTables {
-    /// The tables of the files, whose bytes are copied and not looked at.
-    pub fn of(alloc: Global, files: &Files) -> Result<Self, AllocError>
-        ensures { IfOk result (λ tables. tables ≡ files.now) }
+impl<'a> CarriedTables<'a> {
+    /// The tables of the files, whose bytes are lent and not looked at.
+    pub fn of(files: &'a Files) -> Self
+        ensures { result ≡ files.now }
     {
-        let mut tables = CarriedTables {
-            passwd: IdTable::owning(None),
-            shadow: Table::owning(None),
-            group: IdTable::owning(None),
-            gshadow: Table::owning(None),
-            subuid: RangeTable::owning(None),
-            subgid: RangeTable::owning(None),
-        };
-        tables.load(alloc, files)?;
-        Ok(tables)
-    }
-
-    // Makes them the tables of the files. One that is copied has its place at once, so none is left to
-    // be dropped where memory is wanting.
-    fn load(&mut self, alloc: Global, files: &Files) -> Result<(), AllocError>
-        ensures { OnOk result (self.new ≡ files.now) }
-    {
-        self.passwd = IdTable::owning(copy_of(alloc, &files.passwd)?);
-        self.shadow = Table::owning(copy_of(alloc, &files.shadow)?);
-        self.group = IdTable::owning(copy_of(alloc, &files.group)?);
-        self.gshadow = Table::owning(copy_of(alloc, &files.gshadow)?);
-        self.subuid = RangeTable::owning(copy_of(alloc, &files.subuid)?);
-        self.subgid = RangeTable::owning(copy_of(alloc, &files.subgid)?);
-        Ok(())
+        CarriedTables {
+            passwd: IdTable::lent(&files.passwd),
+            shadow: Table::lent(&files.shadow),
+            group: IdTable::lent(&files.group),
+            gshadow: Table::lent(&files.gshadow),
+            subuid: RangeTable::lent(&files.subuid),
+            subgid: RangeTable::lent(&files.subgid),
+        }
     }
 
     /// Makes an index of each table, that of subuid(5) and of subgid(5) at its first edit, and gathers the
@@ -120,42 +107,42 @@ impl CarriedTables {
     }
 
     /// The table passwd(5), with its UIDs.
-    pub fn passwd(&self) -> &IdTable<PasswdRecord>
+    pub fn passwd(&self) -> &IdTable<'a, PasswdRecord>
         ensures { result.now ≡ self.now.passwd }
     {
         &self.passwd
     }
 
     /// The table shadow(5).
-    pub fn shadow(&self) -> &Table<ShadowRecord>
+    pub fn shadow(&self) -> &Table<'a, ShadowRecord>
         ensures { result.now ≡ self.now.shadow }
     {
         &self.shadow
     }
 
     /// The table group(5), with its GIDs.
-    pub fn group(&self) -> &IdTable<GroupRecord>
+    pub fn group(&self) -> &IdTable<'a, GroupRecord>
         ensures { result.now ≡ self.now.group }
     {
         &self.group
     }
 
     /// The table gshadow(5).
-    pub fn gshadow(&self) -> &Table<GshadowRecord>
+    pub fn gshadow(&self) -> &Table<'a, GshadowRecord>
         ensures { result.now ≡ self.now.gshadow }
     {
         &self.gshadow
     }
 
     /// The table subuid(5).
-    pub fn subuid(&self) -> &RangeTable
+    pub fn subuid(&self) -> &RangeTable<'a>
         ensures { result.now ≡ self.now.subuid }
     {
         &self.subuid
     }
 
     /// The table subgid(5).
-    pub fn subgid(&self) -> &RangeTable
+    pub fn subgid(&self) -> &RangeTable<'a>
         ensures { result.now ≡ self.now.subgid }
     {
         &self.subgid
@@ -196,19 +183,44 @@ impl CarriedTables {
         self.subgid.edit(alloc, subgid)
     }
 
-    /// Takes the files out that the tables make now, in a pass over each table that has an index. What a
-    /// table holds is let go before the file of the next is made. At `AllocError` some of the tables are
-    /// gone.
-    pub fn take_files(&mut self) -> Result<Files, AllocError>
-        ensures { IfOk result (λ files. files ≡ self.old) }
+    /// Takes the tables out that differ from the first ones, in the fixed order, in a pass over each that
+    /// has an index. What a table holds is let go before the bytes of the next are made. At `AllocError`
+    /// some of the tables are gone.
+    pub fn take_changes(&mut self, alloc: Global, first: &Files) -> Result<NewTables, AllocError>
+        requires { StandWhere first.now self.old }
+        ensures { IfOk result (λ tables.
+            tables ≡ changed_tables (table_of first.now) (table_of self.old)) }
     {
-        Ok(Files {
-            passwd: self.passwd.take_file()?,
-            shadow: self.shadow.take_file()?,
-            group: self.group.take_file()?,
-            gshadow: self.gshadow.take_file()?,
-            subuid: self.subuid.take_file()?,
-            subgid: self.subgid.take_file()?,
-        })
+        let mut tables = NewTables::none(alloc);
+        let passwd = self.passwd.take_change(&first.passwd)?;
+        push_new(&mut tables, Tab::Passwd, &first.passwd, passwd)?;
+        let shadow = self.shadow.take_change(&first.shadow)?;
+        push_new(&mut tables, Tab::Shadow, &first.shadow, shadow)?;
+        let group = self.group.take_change(&first.group)?;
+        push_new(&mut tables, Tab::Group, &first.group, group)?;
+        let gshadow = self.gshadow.take_change(&first.gshadow)?;
+        push_new(&mut tables, Tab::Gshadow, &first.gshadow, gshadow)?;
+        let subuid = self.subuid.take_change(&first.subuid)?;
+        push_new(&mut tables, Tab::Subuid, &first.subuid, subuid)?;
+        let subgid = self.subgid.take_change(&first.subgid)?;
+        push_new(&mut tables, Tab::Subgid, &first.subgid, subgid)?;
+        Ok(tables)
+    }
+}
+
+// Adds the table where it has new bytes. None is made, and none goes.
+fn push_new(
+    tables: &mut NewTables,
+    table: Tab,
+    first: &Option<Bytes>,
+    new: Option<Bytes>,
+) -> Result<(), AllocError>
+    ensures { (last : Option (List ℕ)) → is_some last ≡ is_some first.now
+        → new ≡ changed_bytes first.now last → OnOk result (tables.new ≡ tables.old
+        ++ with_new_table table (changed_bytes first.now last) []) }
+{
+    match (first, new) {
+        (Some(first), Some(new)) => tables.push(table, first, new),
+        _ => Ok(()),
     }
 }

@@ -20,7 +20,7 @@ use line_edits::{Becoming, Edit, EditedRecord, SubidChange};
 use std::alloc::{AllocError, Global};
 use subid_ranges::RangeNumbers;
 
-impl RangeTable {
+impl<'a> RangeTable<'a> {
     /// Carries the edits out, in their order, by an index. The numbers follow a range that is added, an
     /// owner that gets another name, and, while no two ranges have a number in common, one whose ranges
     /// go, or whose only range loses an end; behind others they aren't known.

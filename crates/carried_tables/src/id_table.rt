@@ -1,5 +1,6 @@
 // A carried table whose records have IDs, beside which the used IDs are kept (passwd(5), group(5)).
 ghost use Rattle.std.specs.Prelude.{◌≡◌, ◌≤◌, List, ◌∷◌, [], None, false, true, is_some, length, map, option_map, IfOk, IfSome, OnOk};
+ghost use Rattle.acct_text.specs.ChangedTables.{changed_bytes};
 ghost use Rattle.account_model.specs.Edits as model;
 ghost use Rattle.account_model.specs.Format.{find_named};
 ghost use Rattle.account_model.specs.RecordEdits.{IsWrittenEdit};
@@ -21,20 +22,20 @@ use table::Table;
 
 /// A table of the records R, and their IDs where they were gathered. Contracts see it as the bytes of
 /// its file, and none where the file is absent.
-pub struct IdTable<R: IdRecord> {
-    table: Table<R>,
+pub struct IdTable<'a, R: IdRecord> {
+    table: Table<'a, R>,
     // none until they are gathered, and where memory was wanting while they changed
     ids: Option<KeptIds>,
 }
 
 // One call for what may be there, so that who holds several tables has few ways through them.
-impl<R: IdRecord + Drop> Drop for IdTable<R> {
+impl<'a, R: IdRecord + Drop> Drop for IdTable<'a, R> {
     fn drop(self) {
         let IdTable { table: _, ids: _ } = self;
     }
 }
 
-impl<R: IdRecord> Model for IdTable<R> {
+impl<'a, R: IdRecord> Model for IdTable<'a, R> {
     ghost use Rattle.std.specs.Prelude.{ℕ, List, Option, IfSome};
     ghost use Rattle.carried_tables.specs.KeptIds.{AreIdsOf, table_counts};
 
@@ -46,13 +47,13 @@ impl<R: IdRecord> Model for IdTable<R> {
         AreIdsOf ids (table_counts R.format R.id_of t.table)) };
 }
 
-impl<R: IdRecord + Drop> IdTable<R> {
-    /// The table of this file, which is absent where there is none.
-    pub(crate) fn owning(file: Option<Bytes>) -> Self
-        ensures { result ≡ file }
+impl<'a, R: IdRecord + Drop> IdTable<'a, R> {
+    /// The table of this file, which is kept elsewhere and absent where there is none.
+    pub(crate) fn lent(file: &'a Option<Bytes>) -> Self
+        ensures { result ≡ file.now }
     {
         IdTable {
-            table: Table::owning(file),
+            table: Table::lent(file),
             ids: None,
         }
     }
@@ -68,17 +69,17 @@ impl<R: IdRecord + Drop> IdTable<R> {
         self.gather(alloc)
     }
 
-    /// Takes the bytes of the file out; none where it is absent. They are made in a pass over the lines
-    /// where the table has an index.
-    pub(crate) fn take_file(&mut self) -> Result<Option<Bytes>, AllocError>
-        ensures { IfOk result (λ file. file ≡ self.old) }
+    /// Takes the bytes of the file out where they differ from the first ones, and lets the rest go; none
+    /// where they are the same. They are made in a pass over the lines where the table has an index.
+    pub(crate) fn take_change(&mut self, first: &Option<Bytes>) -> Result<Option<Bytes>, AllocError>
+        ensures { IfOk result (λ new. new ≡ changed_bytes first.now self.old) }
     {
         self.ids = None;
-        self.table.take_file()
+        self.table.take_change(first)
     }
 
     /// The table, for what doesn't ask for IDs.
-    pub fn table(&self) -> &Table<R>
+    pub fn table(&self) -> &Table<'a, R>
         ensures { result.now ≡ self.now }
     {
         &self.table

@@ -2,6 +2,7 @@
 // usermod(8), `-l`; subuid(5), subgid(5)).
 ghost use Rattle.std.specs.Prelude.{◌≡◌, ◌<◌, None, Some, is_some, IfOk, MatchOption, OnOk};
 ghost use Rattle.std.specs.List.{list_any};
+ghost use Rattle.acct_text.specs.ChangedTables.{changed_bytes};
 ghost use Rattle.account_model.specs.Records.{subid_format};
 ghost use Rattle.account_model.specs.Tables.{table_records};
 ghost use Rattle.account_model.specs.FreeRange.{free_range};
@@ -26,8 +27,8 @@ const MANY_WITH_CUT: usize = 8;
 
 /// A table of subordinate IDs, beside which the numbers of its ranges are kept once a range is added by
 /// an index. Contracts see it as the bytes of its file, and none where the file is absent.
-pub struct RangeTable {
-    pub(crate) table: Table<SubidRecord>,
+pub struct RangeTable<'a> {
+    pub(crate) table: Table<'a, SubidRecord>,
     // those of its ranges, where they are known
     pub(crate) numbers: Option<RangeNumbers>,
     // whether edits are made where the ranges stand
@@ -35,7 +36,7 @@ pub struct RangeTable {
 }
 
 // One call for what may be there, so that who holds several tables has few ways through them.
-impl Drop for RangeTable {
+impl<'a> Drop for RangeTable<'a> {
     fn drop(self) {
         let RangeTable {
             table: _,
@@ -45,7 +46,7 @@ impl Drop for RangeTable {
     }
 }
 
-impl Model for RangeTable {
+impl<'a> Model for RangeTable<'a> {
     ghost use Rattle.std.specs.Prelude.{ℕ, List, Option, IfSome};
     ghost use Rattle.carried_tables.specs.RangeNumbers.{AreNumbersIn};
 
@@ -56,13 +57,13 @@ impl Model for RangeTable {
     ghost invariant = { λ t. IfSome t.numbers (AreNumbersIn t.table) };
 }
 
-impl RangeTable {
-    /// The table of this file, which is absent where there is none.
-    pub fn owning(file: Option<Bytes>) -> Self
-        ensures { result ≡ file }
+impl<'a> RangeTable<'a> {
+    /// The table of this file, which is kept elsewhere and absent where there is none.
+    pub(crate) fn lent(file: &'a Option<Bytes>) -> Self
+        ensures { result ≡ file.now }
     {
         RangeTable {
-            table: Table::owning(file),
+            table: Table::lent(file),
             numbers: None,
             wants_index: false,
         }
@@ -75,13 +76,13 @@ impl RangeTable {
         self.wants_index = true;
     }
 
-    /// Takes the bytes of the file out; none where it is absent. They are made in a pass over the lines
-    /// where the table has an index.
-    pub fn take_file(&mut self) -> Result<Option<Bytes>, AllocError>
-        ensures { IfOk result (λ file. file ≡ self.old) }
+    /// Takes the bytes of the file out where they differ from the first ones, and lets the rest go; none
+    /// where they are the same. They are made in a pass over the lines where the table has an index.
+    pub(crate) fn take_change(&mut self, first: &Option<Bytes>) -> Result<Option<Bytes>, AllocError>
+        ensures { IfOk result (λ new. new ≡ changed_bytes first.now self.old) }
     {
         self.numbers = None;
-        self.table.take_file()
+        self.table.take_change(first)
     }
 
     /// Whether there is a file.

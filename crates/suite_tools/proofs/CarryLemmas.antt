@@ -19,7 +19,8 @@ use Rattle.login_defs.specs.Held.{HasSettings}
 use Rattle.tool_answers.specs.Decisions.{decision_by, decision_of, written_decision}
 use Rattle.tool_answers.specs.declared.decision.Output.{Output}
 use Rattle.table_edits.specs.Deciding.{IsCarriedOut, written_with}
-use Rattle.suite_tools.specs.Carrying.{CarriesUnder, StandWhere}
+use Rattle.carried_tables.specs.Changes.{StandWhere}
+use Rattle.suite_tools.specs.Carrying.{CarriesUnder}
 use Rattle.suite_tools.specs.Deciding.{tool_decision}
 
 -- what a tool made has each table where it stood

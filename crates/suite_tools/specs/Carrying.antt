@@ -1,9 +1,7 @@
 -- What a tool that is carried out has to answer, and to do with the tables ("EXIT VALUES" of each page;
 -- the actions are those of account_model/specs/Change).
-use Rattle.std.specs.Prelude.{◌≡◌, ℕ, Bool, true, false, List, Result, is_some}
-use Rattle.acct_text.specs.declared.Tab.{Tab}
+use Rattle.std.specs.Prelude.{ℕ, Bool, true, false, List, Result}
 use Rattle.acct_text.specs.declared.files.Files.{Files}
-use Rattle.acct_text.specs.Files.{table_of}
 use Rattle.account_model.specs.Action.{outcome_of}
 use Rattle.account_model.specs.Change.{action_of}
 use Rattle.account_model.specs.declared.tool.Tool.{Tool}
@@ -46,8 +44,3 @@ abbrev pub CarriesUnder :
 CarriesUnder defs day request input old new result =
     (settings : List Setting) → HasSettings defs settings → IsCarriedOut request.tool
     (outcome_of (action_of request input day old settings) old) old new result
-
--- each table stands in the new files where it stood in the first
-abbrev pub StandWhere : Files → Files → Type 0
-StandWhere first last =
-    (table : Tab) → is_some (table_of last table) ≡ is_some (table_of first table)

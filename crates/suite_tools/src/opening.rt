@@ -14,15 +14,15 @@ const MANY_LINES: usize = 8;
 const MANY_NAMES: usize = 64;
 
 /// The tables of the files, for a command with this input.
-pub(crate) fn tables_for(
+pub(crate) fn tables_for<'a>(
     alloc: Global,
     asked: &Asked,
     input: &[u8],
-    files: &Files,
-) -> Result<CarriedTables, AllocError>
+    files: &'a Files,
+) -> Result<CarriedTables<'a>, AllocError>
     ensures { IfOk result (λ tables. tables ≡ files.now) }
 {
-    let mut tables = CarriedTables::of(alloc, files)?;
+    let mut tables = CarriedTables::of(files);
     match asked.tool() {
         Tool::Chpasswd if has_many(input, b'\n', MANY_NAMES) => tables.index_users(alloc)?,
         Tool::Gpasswd if lists_many(asked, b'A') || lists_many(asked, b'M') => {
@@ -35,14 +35,14 @@ pub(crate) fn tables_for(
 }
 
 /// The tables of the files, for the lines of a batch.
-pub(crate) fn tables_for_lines(
+pub(crate) fn tables_for_lines<'a>(
     alloc: Global,
     input: &[u8],
-    files: &Files,
-) -> Result<CarriedTables, AllocError>
+    files: &'a Files,
+) -> Result<CarriedTables<'a>, AllocError>
     ensures { IfOk result (λ tables. tables ≡ files.now) }
 {
-    let mut tables = CarriedTables::of(alloc, files)?;
+    let mut tables = CarriedTables::of(files);
     if has_many(input, b'\n', MANY_LINES) {
         tables.index(alloc)?;
     }

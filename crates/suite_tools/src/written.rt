@@ -6,7 +6,7 @@ ghost use Rattle.account_model.specs.Settings.{Setting};
 ghost use Rattle.account_model.specs.Words.{is_for_lines};
 ghost use Rattle.login_defs.specs.Held.{HasSettings, IsHeld};
 ghost use Rattle.tool_answers.specs.Decisions.{written_decision};
-ghost use Rattle.suite_tools.specs.Carrying.{StandWhere};
+ghost use Rattle.carried_tables.specs.Changes.{StandWhere};
 ghost use Rattle.suite_tools.specs.Writing.{IsWrittenBehind, with_output};
 
 use crate::carry::carry_out;
@@ -26,13 +26,13 @@ const CARRIED_OUT: u8 = 0;
 
 /// The tables that the lines so far leave, carried from line to line, and what these lines print.
 #[derive(Drop)]
-pub(crate) struct Written {
-    tables: CarriedTables,
+pub(crate) struct Written<'a> {
+    tables: CarriedTables<'a>,
     out: Bytes,
     err: Bytes,
 }
 
-impl Model for Written {
+impl<'a> Model for Written<'a> {
     ghost use Rattle.account_model.specs.Batch.{Written as Left};
 
     ghost Value = { Left };
@@ -45,9 +45,9 @@ impl Model for Written {
     } };
 }
 
-impl Written {
+impl<'a> Written<'a> {
     /// What no lines leave of these tables.
-    pub(crate) fn nothing(alloc: Global, tables: CarriedTables) -> Self
+    pub(crate) fn nothing(alloc: Global, tables: CarriedTables<'a>) -> Self
         ensures { result ≡ nothing_on tables }
     {
         Written {

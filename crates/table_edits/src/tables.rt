@@ -8,7 +8,7 @@ use std::marker::Model;
 #[derive(Drop)]
 pub struct Tables<'a> {
     /// Where they stand.
-    pub(crate) carried: &'a CarriedTables,
+    pub(crate) carried: &'a CarriedTables<'a>,
 }
 
 impl<'a> Model for Tables<'a> {
@@ -21,7 +21,7 @@ impl<'a> Model for Tables<'a> {
 
 impl<'a> Tables<'a> {
     /// The tables that are carried from command to command.
-    pub fn of(tables: &'a CarriedTables) -> Self
+    pub fn of(tables: &'a CarriedTables<'a>) -> Self
         ensures { result ≡ tables.now }
     {
         Tables { carried: tables }
@@ -42,14 +42,14 @@ impl<'a> Tables<'a> {
     }
 
     /// The table subuid(5).
-    pub fn subuid_ranges(&self) -> &'a RangeTable
+    pub fn subuid_ranges(&self) -> &'a RangeTable<'a>
         ensures { result.now ≡ self.now.subuid }
     {
         self.carried.subuid()
     }
 
     /// The table subgid(5).
-    pub fn subgid_ranges(&self) -> &'a RangeTable
+    pub fn subgid_ranges(&self) -> &'a RangeTable<'a>
         ensures { result.now ≡ self.now.subgid }
     {
         self.carried.subgid()
