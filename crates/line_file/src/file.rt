@@ -152,6 +152,11 @@ impl<'a> LineFile<'a> {
         )
     }
 
+    /// Whether nothing was put into the file and nothing added.
+    pub fn is_kept(&self) -> bool {
+        self.kept_text().is_some()
+    }
+
     // The bytes of the file where nothing was put into it and nothing added.
     fn kept_text(&self) -> Option<&[u8]>
         ensures bytes { IfSome result (λ text. text.now ≡ file_bytes (lines_now self.now)) }

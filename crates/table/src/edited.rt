@@ -34,7 +34,7 @@ pub(crate) fn edited<'a, R: KeyedRecord + Drop>(
 // The lines after one edit.
 fn edited_once<'a, R: KeyedRecord + Drop>(
     alloc: Global,
-    mut cells: KeyedCells<'a, R>,
+    cells: KeyedCells<'a, R>,
     edit: &Edit<R, R::Change>,
 ) -> Result<KeyedCells<'a, R>, AllocError>
     requires of_file { AreOfFile (lines_now cells) }
@@ -42,8 +42,9 @@ fn edited_once<'a, R: KeyedRecord + Drop>(
     ensures { IfOk result (λ made. lines_now made
         ≡ edited R.format (lines_now cells.entry) (seen_edit R.becomes edit.now)) }
 {
-    cells.edit(alloc, edit)?;
-    renewed(alloc, cells)
+    let mut made = renewed(alloc, cells)?;
+    made.edit(alloc, edit)?;
+    Ok(made)
 }
 
 // The same lines, made anew from their bytes where it is time.

@@ -116,11 +116,11 @@ impl<'a, R: KeyedRecord + Drop> KeyedCells<'a, R> {
         }
     }
 
-    /// Whether it is time to make the lines anew: without an index always, as marks tell places in a text;
-    /// with one now and then, without the places where no text is left. That takes no longer than the edits
-    /// by keys did that came to places since the lines were made.
+    /// Whether it is time to make the lines anew before the next edit: without an index after each one, as
+    /// marks tell places in a text; with one now and then, without the places where no text is left. That
+    /// takes no longer than the edits by keys did that came to places since the lines were made.
     pub(crate) fn is_worn(&self) -> bool {
-        !self.is_indexed || self.worn > self.bytes / 64 + 64
+        (!self.is_indexed && !self.file.is_kept()) || self.worn > self.bytes / 64 + 64
     }
 
     /// The bytes of the lines, one behind the other.
