@@ -9,7 +9,7 @@ use crate::line_at::line_at;
 use crate::marked::marked_in;
 use crate::patch::{Patch, added_cell, cell_of, put_at, put_texts};
 use crate::text_between::text_between;
-use crate::{Cell, Cells};
+use crate::{Cell, Cells, FileText};
 use acct_tables::{Lines, Marks};
 use acct_text::Bytes;
 use indexmap::IndexMap;
@@ -18,9 +18,9 @@ use std::marker::Model;
 
 /// The lines of a file, each in its place, the offset of its first byte in the file, with the texts that
 /// stand there now. Contracts see the list of what stands in each place.
-pub struct LineFile {
+pub struct LineFile<'a> {
     // the file's bytes, which never change
-    text: Bytes,
+    text: FileText<'a>,
     // what was put into the places of its lines
     patched: IndexMap<usize, Patch>,
     // the texts of each added line; the first has the place behind the last byte of the file
@@ -29,8 +29,8 @@ pub struct LineFile {
     are_ended: bool,
 }
 
-// One call for a text, a map and many texts.
-impl Drop for LineFile {
+// One call for a text that may be lent, a map and many texts.
+impl<'a> Drop for LineFile<'a> {
     fn drop(self) {
         let LineFile {
             text: _,
@@ -41,7 +41,7 @@ impl Drop for LineFile {
     }
 }
 
-impl Model for LineFile {
+impl<'a> Model for LineFile<'a> {
     ghost use Rattle.std.specs.Prelude.{List, map};
     ghost use Rattle.std.specs.Vec.{vec_items};
     ghost use Rattle.line_file.specs.declared.cell.Cell.{Cell};
@@ -53,11 +53,11 @@ impl Model for LineFile {
         (map vec_items f.added.items) };
 }
 
-impl LineFile {
+impl<'a> LineFile<'a> {
     /// The lines of a file with these bytes. It takes no memory; that of later edits comes from this
     /// allocator.
-    pub fn of(alloc: Global, text: Bytes) -> Self
-        ensures { result ≡ cells_from 0 (lines_of text) }
+    pub fn of(alloc: Global, text: FileText<'a>) -> Self
+        ensures { result ≡ cells_from 0 (lines_of text.entry) }
     {
         LineFile {
             text,
@@ -150,6 +150,11 @@ impl LineFile {
             self.are_ended,
             self.added.as_slice(),
         )
+    }
+
+    /// Whether nothing was put into the file and nothing added.
+    pub fn is_kept(&self) -> bool {
+        self.kept_text().is_some()
     }
 
     // The bytes of the file where nothing was put into it and nothing added.

@@ -10,17 +10,17 @@ use Rattle.table.specs.declared.files.SeenFile.TheVariants.{Lent, Made}
 use Rattle.table.specs.declared.table.Standing.{Standing}
 use Rattle.table.specs.declared.table.Standing.TheVariants.{File, Indexed}
 
--- the file that was read, or the one that the lines make
+-- the file that is lent or made
+abbrev pub file_seen : SeenFile → Option (List ℕ)
+file_seen (Lent file) = file.now
+file_seen (Made file) = file
+
+-- the file as it is seen, or the one that the lines make
 abbrev pub file_in : Standing (List Cell) → Option (List ℕ)
-file_in (File file) = file
+file_in (File file) = file_seen file
 file_in (Indexed cells) = Some (file_bytes (lines_now cells))
 
 -- the lines, where such stand, are those of the file that they make
 abbrev pub IsOfFile : Standing (List Cell) → Type 0
 IsOfFile (File file) = ⊤
 IsOfFile (Indexed cells) = AreOfFile (lines_now cells)
-
--- the file that is lent or made
-abbrev pub file_seen : SeenFile → Option (List ℕ)
-file_seen (Lent file) = file.now
-file_seen (Made file) = file

@@ -16,7 +16,7 @@ use line_edits::Edit;
 use record_keys::{KeyedRecord, Spot};
 use std::alloc::{AllocError, Global};
 
-impl<R: KeyedRecord + Drop> KeyedCells<R> {
+impl<'a, R: KeyedRecord + Drop> KeyedCells<'a, R> {
     /// Carries the edit out. At `AllocError` it may be made in part.
     pub(crate) fn edit(
         &mut self,

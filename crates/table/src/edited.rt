@@ -9,19 +9,20 @@ ghost use Rattle.table.specs.TableEdits.{AreWritten};
 
 use crate::keyed_cells::KeyedCells;
 use line_edits::Edit;
+use line_file::FileText;
 use record_keys::KeyedRecord;
 use std::alloc::{AllocError, Global};
 
 /// The lines after the edits, in their order. At `AllocError` there are none.
-pub(crate) fn edited<R: KeyedRecord + Drop>(
+pub(crate) fn edited<'a, R: KeyedRecord + Drop>(
     alloc: Global,
-    mut cells: KeyedCells<R>,
+    mut cells: KeyedCells<'a, R>,
     edits: &[Edit<R, R::Change>],
-) -> Result<KeyedCells<R>, AllocError>
+) -> Result<KeyedCells<'a, R>, AllocError>
     requires of_file { AreOfFile (lines_now cells) }
     requires written { AreWritten R.format R.becomes edits.now }
     ensures edited { IfOk result (λ made. lines_now made
-        ≡ edited_by R.format (seen_edits R.becomes edits.now) (lines_now cells)) }
+        ≡ edited_by R.format (seen_edits R.becomes edits.now) (lines_now cells.entry)) }
     ensures of_file { IfOk result (λ made. AreOfFile (lines_now made)) }
 {
     'edits: for edit in edits {
@@ -31,31 +32,32 @@ pub(crate) fn edited<R: KeyedRecord + Drop>(
 }
 
 // The lines after one edit.
-fn edited_once<R: KeyedRecord + Drop>(
+fn edited_once<'a, R: KeyedRecord + Drop>(
     alloc: Global,
-    mut cells: KeyedCells<R>,
+    cells: KeyedCells<'a, R>,
     edit: &Edit<R, R::Change>,
-) -> Result<KeyedCells<R>, AllocError>
+) -> Result<KeyedCells<'a, R>, AllocError>
     requires of_file { AreOfFile (lines_now cells) }
     requires written { IsWrittenEdit R.format (seen_edit R.becomes edit.now) }
     ensures { IfOk result (λ made. lines_now made
-        ≡ edited R.format (lines_now cells) (seen_edit R.becomes edit.now)) }
+        ≡ edited R.format (lines_now cells.entry) (seen_edit R.becomes edit.now)) }
 {
-    cells.edit(alloc, edit)?;
-    renewed(alloc, cells)
+    let mut made = renewed(alloc, cells)?;
+    made.edit(alloc, edit)?;
+    Ok(made)
 }
 
 // The same lines, made anew from their bytes where it is time.
-fn renewed<R: KeyedRecord + Drop>(
+fn renewed<'a, R: KeyedRecord + Drop>(
     alloc: Global,
-    cells: KeyedCells<R>,
-) -> Result<KeyedCells<R>, AllocError>
+    cells: KeyedCells<'a, R>,
+) -> Result<KeyedCells<'a, R>, AllocError>
     requires { AreOfFile (lines_now cells) }
-    ensures { IfOk result (λ made. lines_now made ≡ lines_now cells) }
+    ensures { IfOk result (λ made. lines_now made ≡ lines_now cells.entry) }
 {
     if !cells.is_worn() {
         return Ok(cells);
     }
     let text = cells.text()?;
-    KeyedCells::made(alloc, text, cells.is_indexed)
+    KeyedCells::made(alloc, FileText::own(text), cells.is_indexed)
 }

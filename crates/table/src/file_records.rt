@@ -6,15 +6,18 @@ ghost use Rattle.account_model.specs.Edits.{edited_by};
 ghost use Rattle.account_model.specs.Format.{is_named, records_of};
 ghost use Rattle.account_model.specs.Tables.{table_records};
 ghost use Rattle.line_edits.specs.SeenEdits.{seen_edits};
+ghost use Rattle.table.specs.Standing.{file_seen};
 ghost use Rattle.table.specs.TableEdits.{AreWritten, multiple_by, table_by};
 
 use crate::edited::edited;
+use crate::files::SeenFile;
 use crate::keyed_cells::KeyedCells;
 use crate::named_texts::push_named;
 use crate::search::text_of;
 use acct_tables::{Lines, MANY, Marks, from_marks};
 use acct_text::Bytes;
 use line_edits::{ChangedNames, Edit};
+use line_file::FileText;
 use record_keys::KeyedRecord;
 use std::alloc::{AllocError, Global};
 
@@ -38,15 +41,14 @@ pub(crate) fn named_in<R: KeyedRecord + Drop>(
 /// The name of the first record of a file that the edits touch and whose name has several records.
 pub(crate) fn multiple_in<R: KeyedRecord + Drop>(
     alloc: Global,
-    text: &Bytes,
+    text: &[u8],
     edits: &[Edit<R, R::Change>],
 ) -> Result<Option<Bytes>, AllocError>
     requires { AreWritten R.format R.becomes edits.now }
     ensures { IfOk result (λ name. name ≡
         multiple_by R.format R.becomes edits.now (records_of R.format (lines_of text.now))) }
 {
-    let copy = Bytes::of(alloc, text.as_slice())?;
-    let cells = KeyedCells::made(alloc, copy, are_many::<R>(text.as_slice(), edits))?;
+    let cells = KeyedCells::made(alloc, FileText::lent(text), are_many::<R>(text, edits))?;
     cells.first_multiple(alloc, edits)
 }
 
@@ -91,33 +93,34 @@ pub fn edited_text<R: KeyedRecord + Drop>(
     ensures { IfOk result (λ bytes. bytes ≡ file_bytes
         (edited_by R.format (seen_edits R.becomes edits.now) (lines_of text.now))) }
 {
-    edited_in(alloc, Bytes::of(alloc, text)?, edits)
+    edited_in(alloc, FileText::lent(text), edits)
 }
 
-// The same of a file whose bytes are given away.
-fn edited_in<R: KeyedRecord + Drop>(
+// The same of a file whose bytes are lent or given away.
+fn edited_in<'a, R: KeyedRecord + Drop>(
     alloc: Global,
-    text: Bytes,
+    text: FileText<'a>,
     edits: &[Edit<R, R::Change>],
 ) -> Result<Bytes, AllocError>
     requires { AreWritten R.format R.becomes edits.now }
     ensures { IfOk result (λ bytes. bytes ≡ file_bytes
-        (edited_by R.format (seen_edits R.becomes edits.now) (lines_of text))) }
+        (edited_by R.format (seen_edits R.becomes edits.now) (lines_of text.entry))) }
 {
     let cells = edited(alloc, KeyedCells::untold(alloc, text)?, edits)?;
     cells.text()
 }
 
 /// The file after the edits, in their order; an absent one stays absent.
-pub(crate) fn edited_file<R: KeyedRecord + Drop>(
+pub(crate) fn edited_file<'a, R: KeyedRecord + Drop>(
     alloc: Global,
-    file: Option<Bytes>,
+    file: SeenFile<'a>,
     edits: &[Edit<R, R::Change>],
 ) -> Result<Option<Bytes>, AllocError>
     requires { AreWritten R.format R.becomes edits.now }
-    ensures { IfOk result (λ edited. edited ≡ table_by R.format R.becomes edits.now file) }
+    ensures { IfOk result (λ edited.
+        edited ≡ table_by R.format R.becomes edits.now (file_seen file.entry)) }
 {
-    match file {
+    match file.into_text() {
         Some(text) => Ok(Some(edited_in(alloc, text, edits)?)),
         None => Ok(None),
     }

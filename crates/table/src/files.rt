@@ -1,9 +1,12 @@
 // The file of a table as it is read (passwd(5), shadow(5), group(5), gshadow(5), subuid(5), subgid(5)).
-ghost use Rattle.std.specs.Prelude.{◌≡◌, IfOk};
+ghost use Rattle.std.specs.Prelude.{◌≡◌, None, IfOk};
+ghost use Rattle.acct_text.specs.ChangedTables.{changed_bytes};
+ghost use Rattle.acct_text.specs.Contents.{same_content};
 ghost use Rattle.table.specs.Standing.{file_seen};
 
 use acct_text::Bytes;
-use std::alloc::{AllocError, Global};
+use line_file::FileText;
+use std::alloc::AllocError;
 
 /// The file of a table, which is absent where there is none.
 #[derive(Drop)]
@@ -24,14 +27,61 @@ impl<'a> SeenFile<'a> {
             SeenFile::Made(file) => file,
         }
     }
+    /// No file.
+    pub(crate) fn none() -> Self
+        ensures { file_seen result ≡ None }
+    {
+        SeenFile::Made(None)
+    }
+
+    /// The bytes of the file, lent or given away.
+    pub(crate) fn into_text(self) -> Option<FileText<'a>>
+        ensures { result ≡ file_seen self.entry }
+    {
+        match self {
+            SeenFile::Lent(file) => match file {
+                Some(text) => Some(FileText::lent(text.as_slice())),
+                None => None,
+            },
+            SeenFile::Made(file) => match file {
+                Some(text) => Some(FileText::own(text)),
+                None => None,
+            },
+        }
+    }
+
+    /// The file where it differs from this one.
+    pub(crate) fn change_of(self, first: &Option<Bytes>) -> Result<Option<Bytes>, AllocError>
+        ensures { IfOk result (λ new. new ≡ changed_bytes first.now (file_seen self.entry)) }
+    {
+        if is_same(first, self.file()) {
+            return Ok(None);
+        }
+        match self {
+            SeenFile::Lent(Some(text)) => Ok(Some(text.copy()?)),
+            SeenFile::Lent(None) => Ok(None),
+            SeenFile::Made(file) => Ok(file),
+        }
+    }
+}
+
+// Whether both files are absent, or have the same bytes.
+fn is_same(file: &Option<Bytes>, other: &Option<Bytes>) -> bool
+    ensures { result ≡ same_content file.now other.now }
+{
+    match (file, other) {
+        (None, None) => true,
+        (Some(text), Some(other)) => text.as_slice() == other.as_slice(),
+        _ => false,
+    }
 }
 
 /// The file once more, absent where it is.
-pub fn copy_of(alloc: Global, file: &Option<Bytes>) -> Result<Option<Bytes>, AllocError>
+pub(crate) fn copy_of(file: &Option<Bytes>) -> Result<Option<Bytes>, AllocError>
     ensures { IfOk result (λ copy. copy ≡ file.now) }
 {
     match file {
-        Some(text) => Ok(Some(Bytes::of(alloc, text.as_slice())?)),
+        Some(text) => Ok(Some(text.copy()?)),
         None => Ok(None),
     }
 }

@@ -12,7 +12,7 @@ use std::alloc::{AllocError, Global};
 /// The index of the records of a file, which has so many bytes.
 pub(crate) fn gathered<R: KeyedRecord>(
     alloc: Global,
-    file: &LineFile,
+    file: &LineFile<'_>,
     bytes: usize,
 ) -> Result<KeyPlaces, AllocError>
     ensures told { IfOk result (λ keys.
@@ -44,7 +44,7 @@ fn note_cell<R: KeyedRecord>(cell: Cell<'_>, keys: &mut KeyPlaces)
 }
 
 /// The place of each line, from the first to the last.
-pub(crate) fn all_places(alloc: Global, file: &LineFile) -> Result<Vec<usize>, AllocError>
+pub(crate) fn all_places(alloc: Global, file: &LineFile<'_>) -> Result<Vec<usize>, AllocError>
     ensures { IfOk result (λ places. places.items ≡ map (λ cell. cell.place) file.now) }
 {
     let mut places = Vec::new(alloc);

@@ -22,15 +22,15 @@ use crate::texts_there::TextsThere;
 use acct_tables::{Marks, read_record};
 use acct_text::Bytes;
 use line_edits::ChangedNames;
-use line_file::LineFile;
+use line_file::{FileText, LineFile};
 use record_keys::{KeyPlaces, KeyedRecord, ListedPlaces, own_key};
 use std::alloc::{AllocError, Global};
 use std::marker::{Model, PhantomData};
 
 /// The lines of a table of the records R, with an index of the places where records may have a key.
 /// Contracts see what stands in each place.
-pub(crate) struct KeyedCells<R: KeyedRecord> {
-    pub(crate) file: LineFile,
+pub(crate) struct KeyedCells<'a, R: KeyedRecord> {
+    pub(crate) file: LineFile<'a>,
     pub(crate) keys: KeyPlaces,
     // whether the index tells of the records, as it does unless it lacks memory
     pub(crate) is_indexed: bool,
@@ -42,7 +42,7 @@ pub(crate) struct KeyedCells<R: KeyedRecord> {
 }
 
 // One call, so that who holds the lines has few ways through them.
-impl<R: KeyedRecord + Drop> Drop for KeyedCells<R> {
+impl<'a, R: KeyedRecord + Drop> Drop for KeyedCells<'a, R> {
     fn drop(self) {
         let KeyedCells {
             file: _,
@@ -55,7 +55,7 @@ impl<R: KeyedRecord + Drop> Drop for KeyedCells<R> {
     }
 }
 
-impl<R: KeyedRecord> Model for KeyedCells<R> {
+impl<'a, R: KeyedRecord> Model for KeyedCells<'a, R> {
     ghost use Rattle.std.specs.Prelude.{List};
     ghost use Rattle.line_file.specs.declared.cell.Cell.{Cell};
     ghost use Rattle.record_keys.specs.KeyPlaces.{told_places};
@@ -68,10 +68,10 @@ impl<R: KeyedRecord> Model for KeyedCells<R> {
     ghost invariant = { λ t. AreKept R.format R.keys (told_places t.keys) t.file };
 }
 
-impl<R: KeyedRecord + Drop> KeyedCells<R> {
+impl<'a, R: KeyedRecord + Drop> KeyedCells<'a, R> {
     /// The lines of a file with these bytes, and the index of them, in one pass.
-    pub(crate) fn of(alloc: Global, text: Bytes) -> Result<Self, AllocError>
-        ensures { IfOk result (λ cells. cells ≡ cells_from 0 (lines_of text)) }
+    pub(crate) fn of(alloc: Global, text: FileText<'a>) -> Result<Self, AllocError>
+        ensures { IfOk result (λ cells. cells ≡ cells_from 0 (lines_of text.entry)) }
     {
         let bytes = text.as_slice().len();
         let file = LineFile::of(alloc, text);
@@ -87,8 +87,8 @@ impl<R: KeyedRecord + Drop> KeyedCells<R> {
     }
 
     /// The lines without an index, of which nothing is looked at: a call takes a pass over them.
-    pub(crate) fn untold(alloc: Global, text: Bytes) -> Result<Self, AllocError>
-        ensures { IfOk result (λ cells. cells ≡ cells_from 0 (lines_of text)) }
+    pub(crate) fn untold(alloc: Global, text: FileText<'a>) -> Result<Self, AllocError>
+        ensures { IfOk result (λ cells. cells ≡ cells_from 0 (lines_of text.entry)) }
     {
         let bytes = text.as_slice().len();
         Ok(KeyedCells {
@@ -102,8 +102,12 @@ impl<R: KeyedRecord + Drop> KeyedCells<R> {
     }
 
     /// The lines, with an index or without.
-    pub(crate) fn made(alloc: Global, text: Bytes, is_indexed: bool) -> Result<Self, AllocError>
-        ensures { IfOk result (λ cells. cells ≡ cells_from 0 (lines_of text)) }
+    pub(crate) fn made(
+        alloc: Global,
+        text: FileText<'a>,
+        is_indexed: bool,
+    ) -> Result<Self, AllocError>
+        ensures { IfOk result (λ cells. cells ≡ cells_from 0 (lines_of text.entry)) }
     {
         if is_indexed {
             KeyedCells::of(alloc, text)
@@ -112,11 +116,11 @@ impl<R: KeyedRecord + Drop> KeyedCells<R> {
         }
     }
 
-    /// Whether it is time to make the lines anew: without an index always, as marks tell places in a text;
-    /// with one now and then, without the places where no text is left. That takes no longer than the edits
-    /// by keys did that came to places since the lines were made.
+    /// Whether it is time to make the lines anew before the next edit: without an index after each one, as
+    /// marks tell places in a text; with one now and then, without the places where no text is left. That
+    /// takes no longer than the edits by keys did that came to places since the lines were made.
     pub(crate) fn is_worn(&self) -> bool {
-        !self.is_indexed || self.worn > self.bytes / 64 + 64
+        (!self.is_indexed && !self.file.is_kept()) || self.worn > self.bytes / 64 + 64
     }
 
     /// The bytes of the lines, one behind the other.

@@ -29,6 +29,6 @@ mod table;
 mod texts_there;
 
 pub use file_records::edited_text;
-pub use files::{SeenFile, copy_of};
+pub use files::SeenFile;
 pub use search::{OfGid, RecordTest, text_of};
 pub use table::Table;

@@ -22,7 +22,7 @@ use line_file::Texts;
 use record_keys::KeyedRecord;
 use std::alloc::{AllocError, Global};
 
-impl<R: KeyedRecord + Drop> KeyedCells<R> {
+impl<'a, R: KeyedRecord + Drop> KeyedCells<'a, R> {
     /// The name of the first record that the edits touch and whose name has several records.
     pub(crate) fn first_multiple(
         &self,

@@ -1,6 +1,7 @@
 // A table that is carried from command to command, as the bytes of its file (passwd(5), shadow(5),
 // group(5), gshadow(5), subuid(5), subgid(5)).
 ghost use Rattle.std.specs.Prelude.{◌≡◌, None, filter, find, is_some, nat_le, IfOk, OnOk};
+ghost use Rattle.acct_text.specs.ChangedTables.{changed_bytes};
 ghost use Rattle.account_model.specs.Format.{count_named, find_named, has_named, is_named};
 ghost use Rattle.account_model.specs.Tables.{table_records};
 ghost use Rattle.table.specs.Standing.{IsOfFile, file_in, file_seen};
@@ -8,7 +9,7 @@ ghost use Rattle.table.specs.TableEdits.{AreWritten, multiple_by, table_by};
 
 use crate::edited::edited;
 use crate::file_records::{edited_file, multiple_in, named_in};
-use crate::files::SeenFile;
+use crate::files::{SeenFile, copy_of};
 use crate::keyed_cells::KeyedCells;
 use crate::search::{RecordTest, first_passing, text_of};
 use acct_tables::{MANY, find_record, has_record, has_several_records};
@@ -21,9 +22,9 @@ use std::mem::replace;
 
 /// How a table stands.
 #[derive(Drop)]
-pub(crate) enum Standing<C> {
-    /// As its file, which is absent where there is none.
-    File(Option<Bytes>),
+pub(crate) enum Standing<'a, C> {
+    /// As its file, lent or made, which is absent where there is none.
+    File(SeenFile<'a>),
     /// As lines with an index.
     Indexed(C),
 }
@@ -31,18 +32,18 @@ pub(crate) enum Standing<C> {
 /// A table of the records R: its file, of which each call takes a pass, or its lines with an index, once
 /// that is asked for. Then look-ups and edits by name take no pass over the lines, nor do others that
 /// have a key. Contracts see it as the bytes of its file, and none where the file is absent.
-pub struct Table<R: KeyedRecord> {
-    standing: Standing<KeyedCells<R>>,
+pub struct Table<'a, R: KeyedRecord> {
+    standing: Standing<'a, KeyedCells<'a, R>>,
 }
 
 // One call for what may be there, so that who holds tables has few ways through them.
-impl<R: KeyedRecord + Drop> Drop for Table<R> {
+impl<'a, R: KeyedRecord + Drop> Drop for Table<'a, R> {
     fn drop(self) {
         let Table { standing: _ } = self;
     }
 }
 
-impl<R: KeyedRecord> Model for Table<R> {
+impl<'a, R: KeyedRecord> Model for Table<'a, R> {
     ghost use Rattle.std.specs.Prelude.{ℕ, List, Option};
     ghost use Rattle.table.specs.Standing.{IsOfFile, file_in};
 
@@ -53,13 +54,22 @@ impl<R: KeyedRecord> Model for Table<R> {
     ghost invariant = { λ table. IsOfFile table.standing };
 }
 
-impl<R: KeyedRecord + Drop> Table<R> {
+impl<'a, R: KeyedRecord + Drop> Table<'a, R> {
+    /// The table of a file that is kept elsewhere, which is absent where there is none.
+    pub fn lent(file: &'a Option<Bytes>) -> Self
+        ensures { result ≡ file.now }
+    {
+        Table {
+            standing: Standing::File(SeenFile::Lent(file)),
+        }
+    }
+
     /// The table of this file, which is absent where there is none.
     pub fn owning(file: Option<Bytes>) -> Self
         ensures { result ≡ file }
     {
         Table {
-            standing: Standing::File(file),
+            standing: Standing::File(SeenFile::Made(file)),
         }
     }
 
@@ -77,7 +87,7 @@ impl<R: KeyedRecord + Drop> Table<R> {
         ensures { result ≡ is_some self.now }
     {
         match &self.standing {
-            Standing::File(file) => file.is_some(),
+            Standing::File(file) => file.file().is_some(),
             Standing::Indexed(_) => true,
         }
     }
@@ -87,7 +97,7 @@ impl<R: KeyedRecord + Drop> Table<R> {
         ensures { IfOk result (λ seen. file_seen seen ≡ self.now) }
     {
         match &self.standing {
-            Standing::File(file) => Ok(SeenFile::Lent(file)),
+            Standing::File(file) => Ok(SeenFile::Lent(file.file())),
             Standing::Indexed(cells) => Ok(SeenFile::Made(Some(cells.text()?))),
         }
     }
@@ -97,30 +107,29 @@ impl<R: KeyedRecord + Drop> Table<R> {
         ensures { IfOk result (λ file. file ≡ self.now) }
     {
         match &self.standing {
-            Standing::File(Some(text)) => Ok(Some(text.copy()?)),
-            Standing::File(None) => Ok(None),
+            Standing::File(file) => copy_of(file.file()),
             Standing::Indexed(cells) => Ok(Some(cells.text()?)),
         }
     }
 
-    /// Takes the bytes of the file out, and lets the rest go; none where it is absent. They are made in a
-    /// pass over the lines where the table has an index.
-    pub fn take_file(&mut self) -> Result<Option<Bytes>, AllocError>
-        ensures { IfOk result (λ file. file ≡ self.old) }
+    /// Takes the bytes of the file out where they differ from these, and lets the rest go; none where they
+    /// are the same. They are made in a pass over the lines where the table has an index.
+    pub fn take_change(&mut self, first: &Option<Bytes>) -> Result<Option<Bytes>, AllocError>
+        ensures { IfOk result (λ new. new ≡ changed_bytes first.now self.old) }
     {
         match self.take_standing() {
-            Standing::File(file) => Ok(file),
-            Standing::Indexed(cells) => Ok(Some(cells.text()?)),
+            Standing::File(file) => file.change_of(first),
+            Standing::Indexed(cells) => SeenFile::Made(Some(cells.text()?)).change_of(first),
         }
     }
 
     // Takes out what stands; the table is absent then.
-    fn take_standing(&mut self) -> Standing<KeyedCells<R>>
+    fn take_standing(&mut self) -> Standing<'a, KeyedCells<'a, R>>
         ensures taken { file_in result ≡ self.old }
         ensures of_file { IsOfFile result }
         ensures left { self.new ≡ None }
     {
-        replace(&mut self.standing, Standing::File(None))
+        replace(&mut self.standing, Standing::File(SeenFile::none()))
     }
 
     /// The first record that has the name. By an index it takes no pass over the lines.
@@ -129,7 +138,7 @@ impl<R: KeyedRecord + Drop> Table<R> {
             found ≡ find_named R.format name.now (table_records R.format self.now)) }
     {
         match &self.standing {
-            Standing::File(file) => find_record(alloc, text_of(file), name),
+            Standing::File(file) => find_record(alloc, text_of(file.file()), name),
             Standing::Indexed(cells) => cells.find(alloc, name),
         }
     }
@@ -139,7 +148,7 @@ impl<R: KeyedRecord + Drop> Table<R> {
         ensures { result ≡ has_named R.format name.now (table_records R.format self.now) }
     {
         match &self.standing {
-            Standing::File(file) => has_record::<R>(text_of(file), name),
+            Standing::File(file) => has_record::<R>(text_of(file.file()), name),
             Standing::Indexed(cells) => cells.has(name),
         }
     }
@@ -150,7 +159,7 @@ impl<R: KeyedRecord + Drop> Table<R> {
             (count_named R.format name.now (table_records R.format self.now))) }
     {
         match &self.standing {
-            Standing::File(file) => Ok(has_several_records::<R>(text_of(file), name)),
+            Standing::File(file) => Ok(has_several_records::<R>(text_of(file.file()), name)),
             Standing::Indexed(cells) => cells.has_several(alloc, name),
         }
     }
@@ -161,7 +170,7 @@ impl<R: KeyedRecord + Drop> Table<R> {
             ≡ filter (is_named R.format name.now) (table_records R.format self.now)) }
     {
         match &self.standing {
-            Standing::File(file) => named_in(alloc, file, name),
+            Standing::File(file) => named_in(alloc, file.file(), name),
             Standing::Indexed(cells) => cells.all_named(alloc, name),
         }
     }
@@ -177,7 +186,7 @@ impl<R: KeyedRecord + Drop> Table<R> {
             found ≡ find (T.accepts test.now) (table_records R.format self.now)) }
     {
         match &self.standing {
-            Standing::File(file) => first_passing(alloc, file, test),
+            Standing::File(file) => first_passing(alloc, file.file(), test),
             Standing::Indexed(cells) => cells.first_passing(alloc, test),
         }
     }
@@ -194,8 +203,7 @@ impl<R: KeyedRecord + Drop> Table<R> {
             multiple_by R.format R.becomes edits.now (table_records R.format self.now)) }
     {
         match &self.standing {
-            Standing::File(Some(text)) => multiple_in(alloc, text, edits),
-            Standing::File(None) => Ok(None),
+            Standing::File(file) => multiple_in(alloc, text_of(file.file()), edits),
             Standing::Indexed(cells) => cells.first_multiple(alloc, edits),
         }
     }
@@ -232,34 +240,39 @@ impl<R: KeyedRecord + Drop> Table<R> {
 }
 
 // What stands, with an index.
-fn indexed<R: KeyedRecord + Drop>(
+fn indexed<'a, R: KeyedRecord + Drop>(
     alloc: Global,
-    standing: Standing<KeyedCells<R>>,
-) -> Result<Standing<KeyedCells<R>>, AllocError>
+    standing: Standing<'a, KeyedCells<'a, R>>,
+) -> Result<Standing<'a, KeyedCells<'a, R>>, AllocError>
     requires { IsOfFile standing }
-    ensures same { IfOk result (λ indexed. file_in indexed ≡ file_in standing) }
+    ensures same { IfOk result (λ indexed. file_in indexed ≡ file_in standing.entry) }
     ensures of_file { IfOk result IsOfFile }
 {
     match standing {
-        Standing::File(Some(text)) => Ok(Standing::Indexed(KeyedCells::of(alloc, text)?)),
-        other => Ok(other),
+        Standing::File(file) => match file.into_text() {
+            Some(text) => Ok(Standing::Indexed(KeyedCells::of(alloc, text)?)),
+            None => Ok(Standing::File(SeenFile::none())),
+        },
+        Standing::Indexed(cells) => Ok(Standing::Indexed(cells)),
     }
 }
 
 // What stands after the edits.
-fn edited_standing<R: KeyedRecord + Drop>(
+fn edited_standing<'a, R: KeyedRecord + Drop>(
     alloc: Global,
-    standing: Standing<KeyedCells<R>>,
+    standing: Standing<'a, KeyedCells<'a, R>>,
     edits: &[Edit<R, R::Change>],
-) -> Result<Standing<KeyedCells<R>>, AllocError>
+) -> Result<Standing<'a, KeyedCells<'a, R>>, AllocError>
     requires of_file { IsOfFile standing }
     requires written { AreWritten R.format R.becomes edits.now }
     ensures edited { IfOk result (λ edited.
-        file_in edited ≡ table_by R.format R.becomes edits.now (file_in standing)) }
+        file_in edited ≡ table_by R.format R.becomes edits.now (file_in standing.entry)) }
     ensures of_file { IfOk result IsOfFile }
 {
     match standing {
-        Standing::File(file) => Ok(Standing::File(edited_file(alloc, file, edits)?)),
+        Standing::File(file) => Ok(Standing::File(SeenFile::Made(edited_file(
+            alloc, file, edits,
+        )?))),
         Standing::Indexed(cells) => Ok(Standing::Indexed(edited(alloc, cells, edits)?)),
     }
 }

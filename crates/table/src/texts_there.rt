@@ -12,7 +12,7 @@ use std::marker::Model;
 pub(crate) struct TextsThere<'a> {
     // those of the place at hand
     texts: Texts<'a>,
-    file: &'a LineFile,
+    file: &'a LineFile<'a>,
     // the places behind it
     places: &'a [usize],
 }
@@ -28,7 +28,7 @@ impl<'a> Model for TextsThere<'a> {
 
 impl<'a> TextsThere<'a> {
     /// All texts in the places, in their order.
-    pub(crate) fn of(file: &'a LineFile, places: &'a [usize]) -> Self
+    pub(crate) fn of(file: &'a LineFile<'a>, places: &'a [usize]) -> Self
         ensures { result ≡ texts_there file.now places.now }
     {
         TextsThere {
@@ -57,7 +57,7 @@ impl<'a> TextsThere<'a> {
 }
 
 // The texts in a place; none where no line is.
-fn texts_at<'a>(file: &'a LineFile, place: usize) -> Texts<'a>
+fn texts_at<'a>(file: &'a LineFile<'a>, place: usize) -> Texts<'a>
     ensures { result ≡ texts_at file.now place }
 {
     match file.cell(place) {

@@ -1,17 +1,17 @@
 // Texts that are put into the places of a file's lines, and lines that are added (group(5)).
 use acct_text::Bytes;
-use line_file::LineFile;
+use line_file::{FileText, LineFile};
 use std::test::Fail;
 
 // How many texts stand in the place; none where no line begins there.
-fn count_at(file: &LineFile, place: usize) -> Option<usize> {
+fn count_at(file: &LineFile<'_>, place: usize) -> Option<usize> {
     Some(file.cell(place)?.texts.len())
 }
 
 #[test]
 fn what_is_put_stands_in_the_place_of_a_line(rt: HostRuntime) -> Result<(), Fail> {
     let alloc = rt.alloc();
-    let mut file = LineFile::of(alloc, Bytes::of(alloc, b"a:x:1:\nb:x:2:\nc:x:3:")?);
+    let mut file = LineFile::of(alloc, FileText::lent(b"a:x:1:\nb:x:2:\nc:x:3:"));
     assert_eq!(rt;
         file.text()?.as_slice(),
         b"a:x:1:\nb:x:2:\nc:x:3:".as_slice()

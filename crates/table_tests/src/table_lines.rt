@@ -19,7 +19,7 @@ const USERS: &[u8] =
     b"ann:x:1000:100::/:\n# two of one name\nbob:x:1001:100::/:\nann:x:1002:101::/:";
 
 // The table of these users.
-fn users(alloc: Global) -> Result<Table<PasswdRecord>, AllocError> {
+fn users(alloc: Global) -> Result<Table<'static, PasswdRecord>, AllocError> {
     Ok(Table::owning(Some(Bytes::of(alloc, USERS)?)))
 }
 
@@ -49,7 +49,7 @@ fn records_are_found_by_name_and_by_test(rt: HostRuntime) -> Result<(), Fail> {
 // One edit of the table.
 fn edit(
     alloc: Global,
-    table: &mut Table<PasswdRecord>,
+    table: &mut Table<'_, PasswdRecord>,
     one: Edit<PasswdRecord, PasswdChange>,
 ) -> Result<(), AllocError>
     requires { IsWrittenEdit passwd_format (seen_edit passwd_becomes one) }
@@ -59,7 +59,7 @@ fn edit(
 }
 
 // Adds the user that the line is.
-fn add(alloc: Global, table: &mut Table<PasswdRecord>, line: &[u8]) -> Result<(), AllocError>
+fn add(alloc: Global, table: &mut Table<'_, PasswdRecord>, line: &[u8]) -> Result<(), AllocError>
     requires { Lacks newline line.now }
 {
     if let Some(user) = read_record::<PasswdRecord>(alloc, line)? {
@@ -69,7 +69,11 @@ fn add(alloc: Global, table: &mut Table<PasswdRecord>, line: &[u8]) -> Result<()
 }
 
 // Takes the users of the name out.
-fn remove(alloc: Global, table: &mut Table<PasswdRecord>, name: &[u8]) -> Result<(), AllocError> {
+fn remove(
+    alloc: Global,
+    table: &mut Table<'_, PasswdRecord>,
+    name: &[u8],
+) -> Result<(), AllocError> {
     let name = Bytes::of(alloc, name)?;
     edit(alloc, table, Edit::Become(PasswdChange::Remove(name)))
 }
@@ -85,7 +89,7 @@ fn a_name_comes_and_goes_many_times(rt: HostRuntime) -> Result<(), Fail> {
     }
     remove(alloc, &mut table, b"ann")?;
     add(alloc, &mut table, b"eve:x:1003:100::/:")?;
-    let file = table.take_file()?.unwrap_or(Bytes::new(alloc));
+    let file = table.take_change(&None)?.unwrap_or(Bytes::new(alloc));
     assert_eq!(rt;
         file.as_slice(),
         b"# two of one name\nbob:x:1001:100::/:\neve:x:1003:100::/:\n".as_slice()

@@ -11,7 +11,7 @@ fn gid_of(found: Option<GroupRecord>) -> Option<u32> {
 }
 
 // The table of so many groups, with the numbers from 1 on in their names and as GIDs.
-fn many_groups(alloc: Global, count: u32) -> Result<Table<GroupRecord>, AllocError> {
+fn many_groups(alloc: Global, count: u32) -> Result<Table<'static, GroupRecord>, AllocError> {
     let mut text = String::new(alloc);
     for number in 1..=count {
         write!(text, "g{number}:x:{number}:\n")?;

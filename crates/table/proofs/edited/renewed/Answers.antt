@@ -10,7 +10,7 @@ pub returns : goal.returns
 returns g c =
     IfOk-weaker c.made.result _ _ (λ made is.
     ap lines_now is
-    ∙ start-lines 0 (lines_of c.in_ok-text.text)
-    ∙ ap lines_of c.in_ok-text.ensures
+    ∙ start-lines 0 (lines_of c.own.result)
+    ∙ ap lines_of (c.own.ensures ∙ c.in_ok-text.ensures)
     ∙ c.requires)
     c.made.ensures

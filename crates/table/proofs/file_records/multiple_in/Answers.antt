@@ -16,6 +16,6 @@ returns g c =
     is
     ∙ ap (λ lines. multiple_by format g.R.EditedRecord.becomes edits (records_of format lines))
     (ap lines_now (c.in_ok-cells.ensures {u = tt})
-    ∙ start-lines 0 (lines_of c.in_ok-copy.copy)
-    ∙ ap lines_of (c.in_ok-copy.ensures {u = tt} ∙ c.as_slice.ensures)))
+    ∙ start-lines 0 (lines_of c.lent.result)
+    ∙ ap lines_of c.lent.ensures))
     c.first_multiple.ensures

@@ -10,19 +10,20 @@ use Rattle.table.proofs.KeptCells.{start-lines}
 use Rattle.table.proofs.table.indexed.Goals as goal
 
 -- the lines make the text again
-pub returns-in_ok-of-in-File-Some-clause-same : goal.returns-in_ok-of-in-File-Some-clause-same
-returns-in_ok-of-in-File-Some-clause-same g c =
-    let text = c.in-File-Some.text in
+pub returns-in_ok-of-in-Some-clause-same : goal.returns-in_ok-of-in-Some-clause-same
+returns-in_ok-of-in-Some-clause-same g c =
+    let text = c.in-Some.text in
     ap (λ lines. Some (file_bytes lines))
-    (ap lines_now c.in_ok-of-in-File-Some.ensures ∙ start-lines 0 (lines_of text))
+    (ap lines_now c.in_ok-of-in-Some.ensures ∙ start-lines 0 (lines_of text))
     ∙ ap Some (lines_of-are text).joined
-    ∙ sym c.in-File-Some.field-0-is
-    ∙ ap file_in (sym c.in-File-Some.is)
+    ∙ sym c.in-Some.is
+    ∙ c.into_text.ensures
+    ∙ ap file_in (sym c.in-File.is)
 
 -- they are those of the file
-pub returns-in_ok-of-in-File-Some-clause-of_file : goal.returns-in_ok-of-in-File-Some-clause-of_file
-returns-in_ok-of-in-File-Some-clause-of_file g c =
-    let text = c.in-File-Some.text in
+pub returns-in_ok-of-in-Some-clause-of_file : goal.returns-in_ok-of-in-Some-clause-of_file
+returns-in_ok-of-in-Some-clause-of_file g c =
+    let text = c.in-Some.text in
     subst AreOfFile
-    (sym (ap lines_now c.in_ok-of-in-File-Some.ensures ∙ start-lines 0 (lines_of text)))
+    (sym (ap lines_now c.in_ok-of-in-Some.ensures ∙ start-lines 0 (lines_of text)))
     (text-of_file text)
