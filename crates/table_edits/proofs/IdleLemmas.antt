@@ -1,16 +1,15 @@
 -- Claims: edits that leave each record leave the file (`idle-file`), and touch no record, so no multiple
 -- entry is met (`idle-met`). Way: edit by edit, and line by line.
 use Rattle.std.proofs.Common.{◌≡◌, ◌∙◌, ℕ, false, List, [], ◌∷◌, ◌++◌, Option, Some, None, refl, ap, if◌then◌else◌}
-use Rattle.std.specs.Prelude.{◌&&◌, find, flat_map, option_map}
+use Rattle.std.specs.Prelude.{◌&&◌, ◌||◌, find, flat_map, not, option_map}
 use Rattle.std.specs.List.{AllByRecursion}
 use Rattle.acct_text.specs.Lines.{Line, file_bytes, lines_of}
 use Rattle.acct_text.proofs.LinesLaws.{lines_of-are}
-use Rattle.account_model.specs.Edits.{Edit, Become, Add, AddMissing, Put, Arrange, becomes, edited, edited_by, first_multiple, is_multiple, touches}
+use Rattle.account_model.specs.Edits.{Edit, Become, Add, AddMissing, Put, Arrange, becomes, becoming_touches, edited, edited_by, first_multiple, is_multiple, touches}
 use Rattle.account_model.specs.Format.{Format}
 use Rattle.account_model.specs.RecordEdits.{TellsSame}
 use Rattle.account_model.specs.Tables.{table_after}
 use Rattle.line_edits.proofs.ChangedLines.{left-line}
-use Rattle.line_edits.proofs.ReachLemmas.{left-to}
 use Rattle.table_edits.specs.IdleEdits.{LeavesAll, LeavesRecords}
 
 module _ {R : Type 0} (format : Format R) (tells : TellsSame format) where
@@ -60,7 +59,9 @@ module _ {R : Type 0} (format : Format R) (tells : TellsSame format) where
       (edit : Edit R) (edits : List (Edit R)) (r : R)
       → LeavesAll edit
       → touches format (edit ∷ edits) r ≡ touches format edits r
-  edit-untouched (Become f) edits r leaves = left-to format f r tells (leaves r) edits
+  edit-untouched (Become f) edits r leaves =
+      ap (λ now. becoming_touches format r now (touches format edits)) (leaves r)
+      ∙ ap (λ same. not same || touches format edits r) ((tells r r).1 refl)
   edit-untouched (Add s) edits r leaves = absurd leaves
   edit-untouched (AddMissing s) edits r leaves = absurd leaves
   edit-untouched (Put s) edits r leaves = absurd leaves
