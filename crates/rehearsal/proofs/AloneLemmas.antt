@@ -32,7 +32,7 @@ use Rattle.account_model.specs.declared.word_fault.WordFault.TheVariants.{Memory
 use Rattle.account_model.specs.Options.{Word}
 use Rattle.account_model.specs.Request.{Request, is_report}
 use Rattle.account_model.specs.Words.{Asks}
-use Rattle.account_model.specs.Answer.{AnswerCause, Unusable, Refused as ModelRefused, RefusedLine as ModelRefusedLine, Same as ModelSame, Changed as ModelChanged, deed, is_faulty_batch, new_files}
+use Rattle.account_model.specs.Answer.{AnswerCause, Changed as ModelChanged, deed, is_faulty_batch, new_files}
 use Rattle.account_model.proofs.AsksLaws.{asks_iff_read}
 use Rattle.account_model.proofs.SeenLemmas.{sees-all}
 use Rattle.suite_session.proofs.ReportStays.{report-stays}
@@ -186,11 +186,8 @@ module _ (deeds : SuiteDeeds) (asked : Question) (first : Folder) (new : History
 -- what says no change makes no new files
 no-deed : (cause : AnswerCause) (told : Cause) → told ≡ cause_of_answer cause →
     (told ≡ Changed → ⊥) → new_files cause ≡ None
-no-deed (Unusable problem) told is stays = refl
-no-deed (ModelRefused refusal) told is stays = refl
-no-deed (ModelRefusedLine line refusal) told is stays = refl
-no-deed ModelSame told is stays = refl
 no-deed (ModelChanged files) told is stays = absurd (stays is)
+no-deed cause told is stays = refl
 
 -- and so there is no deed, whether a line of a batch is faulty or not
 no-change-deed : (faulty : Bool) (made : Option Files) → made ≡ None →
@@ -200,11 +197,8 @@ no-change-deed false made none = none
 
 -- what is no change makes none either
 pub unchanged-deed : (cause : AnswerCause) → is_change cause ≡ false → new_files cause ≡ None
-unchanged-deed (Unusable problem) stays = refl
-unchanged-deed (ModelRefused refusal) stays = refl
-unchanged-deed (ModelRefusedLine line refusal) stays = refl
-unchanged-deed ModelSame stays = refl
 unchanged-deed (ModelChanged files) stays = absurd (true≢false stays)
+unchanged-deed cause stays = refl
 
 -- ---- One step
 
@@ -224,11 +218,7 @@ files-are contents files same = λ i. record {
 table-is : (contents : Contents) (table : Tab) →
     table_of (files_of contents) table ≡ contents table
 table-is contents Passwd = refl
-table-is contents Shadow = refl
-table-is contents Group = refl
-table-is contents Gshadow = refl
-table-is contents Subuid = refl
-table-is contents Subgid = refl
+table-is contents table = refl
 
 -- the contents after a deed are its files, or what stood
 after-made : (contents : Contents) (made : Option Files) (table : Tab) →

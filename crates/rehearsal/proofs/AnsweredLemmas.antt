@@ -15,7 +15,7 @@ use Rattle.acct_outside.specs.Moment.{Past}
 use Rattle.acct_outside.specs.Streams.{WhereBytesTold}
 use Rattle.account_model.specs.declared.tool.Tool.{Tool}
 use Rattle.account_model.specs.declared.word_fault.WordFault.{WordFault}
-use Rattle.account_model.specs.Answer.{Answer, AnswerCause, Unusable, Refused, RefusedLine, Same, Changed, TableTooLarge, SettingsTooLarge, TableAbsent, BadSettingAt, answer, new_files}
+use Rattle.account_model.specs.Answer.{Answer, AnswerCause, Unusable, TableTooLarge, answer, new_files}
 use Rattle.account_model.specs.Options.{Word}
 use Rattle.account_model.specs.Request.{Request, is_report}
 use Rattle.account_model.specs.Words.{Asks}
@@ -60,13 +60,7 @@ on-day false day is = absurd (cc)
 -- an answer is a change exactly where its cause says so
 cause-change : (cause : AnswerCause) → is_changed (cause_of_answer cause) ≡ is_change cause
 cause-change (Unusable (TableTooLarge table)) = refl
-cause-change (Unusable SettingsTooLarge) = refl
-cause-change (Unusable (TableAbsent table)) = refl
-cause-change (Unusable (BadSettingAt line)) = refl
-cause-change (Refused refusal) = refl
-cause-change (RefusedLine line refusal) = refl
-cause-change Same = refl
-cause-change (Changed files) = refl
+cause-change cause = refl
 
 module _ (words : List Word) (old new : Past) (outcome : Outcome) (before now : Supplies)
     (asked : Bool) (settings : defs_at old ≡ None) (empty : before.left ≡ Some [])

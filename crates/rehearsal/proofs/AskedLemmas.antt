@@ -1,7 +1,5 @@
 -- Claims: three words, `rehearse` and two numbers within their bounds, ask for a rehearsal of these
--- (`asks-for`); and words ask for none where they aren't three (`not-three`), where the first is another
--- (`not-named`), or where one of the others is no such number or the last is 0 (`no-seed`, `no-count`,
--- `none-counted`).
+-- (`asks-for`); and words ask for none where one of the two is no such number (`no-seed`, `no-count`).
 -- Way: a text is the number that `number_within` finds, and no other.
 use Rattle.std.proofs.Common.{◌≡◌, ◌∙◌, refl, sym, ap, ℕ, ◌≤◌, List, [], ◌∷◌, length, get_or, Option, Some, None, arith}
 use Rattle.std.specs.Prelude.{codes}
@@ -9,7 +7,7 @@ use Rattle.std.specs.Option.{ok_or}
 use Rattle.std.specs.Result.{result_ok}
 use Rattle.acct_text.specs.declared.numbers.NumberFault.{NumberFault}
 use Rattle.acct_text.specs.Numbers.{number_within}
-use Rattle.acct_text.proofs.NumberLaws.{number-found, number-is, some-inj}
+use Rattle.acct_text.proofs.NumberLaws.{number-found, number-is}
 use Rattle.account_model.specs.Options.{Word}
 use Rattle.rehearsal.specs.declared.asked.Rehearsal.{Rehearsal}
 use Rattle.rehearsal.specs.Asked.{AsksFor, IsWithinBounds, greatest_seed, most_commands}
@@ -26,16 +24,9 @@ ok-within None fault = refl
 pub are-three : (words : List Word) (name seed count : Word) → length words ≡ 3 →
     name ≡ get_or words 0 name → seed ≡ get_or words 1 seed → count ≡ get_or words 2 count →
     words ≡ name ∷ seed ∷ count ∷ []
-are-three [] name seed count three first second third = absurd (omega arith)
-are-three (a ∷ []) name seed count three first second third = absurd (omega arith)
-are-three (a ∷ b ∷ []) name seed count three first second third = absurd (omega arith)
 are-three (a ∷ b ∷ c ∷ []) name seed count three first second third =
     λ i. sym first i ∷ sym second i ∷ sym third i ∷ []
-are-three (a ∷ b ∷ c ∷ d ∷ rest) name seed count three first second third = absurd (omega arith)
-
--- none where there aren't three
-pub not-three : (words : List Word) → (length words ≡ 3 → ⊥) → AsksForNone words
-not-three words others asked asks = others (ap length asks.spelled)
+are-three words name seed count three first second third = absurd (omega arith)
 
 module _ (words : List Word) (name seed_digits count_digits : Word)
     (three : words ≡ name ∷ seed_digits ∷ count_digits ∷ []) where
@@ -52,12 +43,6 @@ module _ (words : List Word) (name seed_digits count_digits : Word)
     count = number-is most_commands count_digits asked.count count;
     some = some;
   }
-
-  -- none where the first word is another
-  pub not-named : (name ≡ codes "rehearse" → ⊥) → AsksForNone words
-  not-named another asked asks =
-      let spelled = sym three ∙ asks.spelled in
-      let same : name ≡ codes "rehearse" = cc in another same
 
   -- who asks for one has read both numbers
   seed-read : (asked : Rehearsal) → AsksFor words asked →
@@ -76,7 +61,7 @@ module _ (words : List Word) (name seed_digits count_digits : Word)
       ap (number_within most_commands) same
       ∙ number-found most_commands asks.count_digits asked.count asks.count
 
-  -- none where one of the two is no number, or the last is 0
+  -- none where one of the two is no number
   pub no-seed : number_within greatest_seed seed_digits ≡ None → AsksForNone words
   no-seed is asked asks =
       let wrong : None ≡ Some asked.seed = sym is ∙ seed-read asked asks in cc
@@ -84,11 +69,6 @@ module _ (words : List Word) (name seed_digits count_digits : Word)
   pub no-count : number_within most_commands count_digits ≡ None → AsksForNone words
   no-count is asked asks =
       let wrong : None ≡ Some asked.count = sym is ∙ count-read asked asks in cc
-
-  pub none-counted : number_within most_commands count_digits ≡ Some 0 → AsksForNone words
-  none-counted is asked asks =
-      let same = some-inj (sym is ∙ count-read asked asks) in
-      let some = asks.some in absurd (omega arith)
 
 -- ---- Bounds
 

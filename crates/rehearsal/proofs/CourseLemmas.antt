@@ -3,7 +3,7 @@
 -- Way: an answer keeps the tables standing, as deeds do, and counts for one change at most.
 use Rattle.std.proofs.Common.{◌≡◌, ◌∙◌, refl, sym, ap, List, ℕ, zero, suc, ◌+◌, ◌≤◌, Bool, true, false, Option, Some, None, Result, Ok, Err, [], arith, add-one}
 use Rattle.std.specs.Prelude.{if◌then◌else◌, unwrap_or}
-use Rattle.acct_text.specs.declared.Tab.TheVariants.{Passwd, Shadow, Group, Gshadow, Subuid, Subgid}
+use Rattle.acct_text.specs.declared.Tab.TheVariants.{Passwd}
 use Rattle.acct_text.specs.declared.files.Files.{Files}
 use Rattle.account_model.specs.declared.word_fault.WordFault.{WordFault}
 use Rattle.account_model.specs.Answer.{answer, new_files}
@@ -24,11 +24,7 @@ use Rattle.rehearsal.specs.Images.{AllStand, IsAnswered}
 -- so they do at first
 first-stands : AllStand empty_files
 first-stands Passwd = refl
-first-stands Shadow = refl
-first-stands Group = refl
-first-stands Gshadow = refl
-first-stands Subuid = refl
-first-stands Subgid = refl
+first-stands other = refl
 
 -- and after each command, where they did before
 read-stands : (read : Result Request WordFault) (was : Reached) → AllStand was.files →

@@ -1,22 +1,17 @@
--- Claims: a folder of six tables, and nothing else, has these files (`has-files`); and the files of a
--- folder in which no intent stands are its tables (`table-stands`).
+-- Claim: a folder of six tables, and nothing else, has these files (`has-files`).
 -- Way: what is laid into the folder and what is settled there computes, table by table.
 use Rattle.std.proofs.Common.{◌≡◌, ◌∙◌, refl, ap, List, [], Option, Some, None, true}
 use Rattle.std.specs.Prelude.{is_some, unwrap_or}
-use Rattle.std.specs.Option.{option_or}
 use Rattle.acct_text.specs.Bytes.{Bytes}
-use Rattle.acct_text.specs.declared.Tab.{Tab}
 use Rattle.acct_text.specs.declared.Tab.TheVariants.{Passwd, Shadow, Group, Gshadow, Subuid, Subgid}
 use Rattle.acct_text.specs.declared.files.Files.{Files}
 use Rattle.acct_outside.specs.declared.Name.{Name}
-use Rattle.acct_outside.specs.declared.Name.TheVariants.{Intent, Table}
+use Rattle.acct_outside.specs.declared.Name.TheVariants.{Intent}
 use Rattle.acct_outside.specs.Folder.{IsFolder}
 use Rattle.memory_folder.specs.Logged.{folder_after}
 use Rattle.acct_outside.specs.Moment.{Past}
 use Rattle.memory_folder.specs.Store.{folder_with}
-use Rattle.intent_file.specs.Intent.{listed_in}
 use Rattle.suite_rules.specs.Deeds.{SuiteDeeds}
-use Rattle.suite_rules.specs.Settled.{listed_by, settled}
 use Rattle.suite_session.specs.Deeds.{AreOfTools}
 use Rattle.rehearsal.specs.Alone.{HasFiles, defs_at, files_at}
 use Rattle.rehearsal.proofs.TwiceLemmas.{starts-lawfully}
@@ -57,11 +52,3 @@ has-files deeds ours files past contents stand laid is folder =
       settings = ap defs_at begins;
       intent = ap (λ (one : Past). (folder_after one).file Intent) begins;
     }
-
--- ---- Out of a folder
-
--- where no intent stands, a table is settled as it stands
-pub table-stands : (past : Past) (table : Tab) → (folder_after past).file Intent ≡ None →
-    settled (folder_after past) table ≡ (folder_after past).file (Table table)
-table-stands past table none = ap (λ (intent : Option Bytes).
-    option_or (listed_in (listed_by intent) table) ((folder_after past).file (Table table))) none

@@ -15,7 +15,7 @@ use Rattle.suite_answers.specs.declared.answer.Answer.{Answer}
 use Rattle.suite_session.specs.declared.session.Phase.{Phase}
 use Rattle.suite_session.specs.declared.session.Phase.TheVariants.{Waiting, Begun, Over, Unbegun}
 use Rattle.suite_session.specs.Belongs.{Belongs}
-use Rattle.suite_session.specs.Session.{IsWaiting, answer_of, outcome_of, phase_left}
+use Rattle.suite_session.specs.Session.{answer_of, outcome_of, phase_left}
 use Rattle.suite_session.specs.Stands.{StaysOurs}
 use Rattle.suite_session.specs.Turning.{KeepsOthers, SessionTurns}
 use Rattle.suite_course.specs.Turned.{AnswersKeepPromises}
@@ -84,20 +84,6 @@ pub both-turned : (start between now : MemoryFolder) (one other new next : Phase
 both-turned start between now one other new next together first second =
     together-also now next new
     (second new (together-also between new other (first other together)))
-
--- a session that hasn't begun belongs to each folder, with any other that does
-pub waiting-belongs : (folder : MemoryFolder) (session other : Phase) → IsWaiting session →
-    IsLawful (past_of folder) → Belongs (moment_of folder) other →
-    BelongTogether folder session other
-waiting-belongs folder (Waiting asked) other is lawful belongs = record {
-  lawful = lawful;
-  one_belongs = tt;
-  other_belongs = belongs;
-  apart = λ token has also. absurd (let wrong : None ≡ Some token = has in cc);
-}
-waiting-belongs folder (Begun runner state) other is lawful belongs = absurd is
-waiting-belongs folder (Over runner answer) other is lawful belongs = absurd is
-waiting-belongs folder (Unbegun tool answer) other is lawful belongs = absurd is
 
 -- ---- The end
 
