@@ -1,4 +1,4 @@
--- Where the tables stand that a change is taken out of (docs/DEFINITIONS.md).
+-- Where tables stand of which those that differ are taken out, as an absent table is never made.
 use Rattle.std.specs.Prelude.{◌≡◌, is_some}
 use Rattle.acct_text.specs.declared.Tab.{Tab}
 use Rattle.acct_text.specs.declared.files.Files.{Files}

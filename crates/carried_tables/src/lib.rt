@@ -1,10 +1,11 @@
 //! The six tables that commands carry from one to the next (passwd(5), shadow(5), group(5), gshadow(5),
 //! subuid(5), subgid(5)).
 //!
-//! `CarriedTables` stand in the place of the files. Opening them is a copy of the bytes, and each call takes
-//! a pass over these; who asks much of a table has an index made of it: each is a `Table` of the crate
-//! `table`, those of users and of groups with the IDs that are used (`id_table`, `kept_ids`), and those
-//! of subordinate IDs with the numbers that their ranges take (`range_table`).
+//! `CarriedTables` stand in the place of the files, whose bytes are lent to them. Each call takes a pass
+//! over these; who asks much of a table has an index made of it: each is a `Table` of the crate `table`,
+//! those of users and of groups with the IDs that are used (`id_table`, `kept_ids`), and those of
+//! subordinate IDs with the numbers that their ranges take (`range_table`). In the end the tables that
+//! differ from the files are taken out.
 //!
 //! `ids` gathers the IDs that are used in a file; `in_use` is how they are answered. A `RangeTable` decides
 //! how edits of ranges are made. `left_ranges` passes by those that leave the whole file. Without an index

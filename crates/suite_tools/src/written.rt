@@ -48,7 +48,7 @@ impl<'a> Model for Written<'a> {
 impl<'a> Written<'a> {
     /// What no lines leave of these tables.
     pub(crate) fn nothing(alloc: Global, tables: CarriedTables<'a>) -> Self
-        ensures { result ≡ nothing_on tables }
+        ensures { result ≡ nothing_on tables.entry }
     {
         Written {
             tables,
@@ -109,7 +109,7 @@ impl<'a> Written<'a> {
     /// bytes.
     pub(crate) fn decision(self, alloc: Global, first: &Files) -> Result<Decision, AllocError>
         requires { StandWhere first.now self.files }
-        ensures { IfOk result (λ decision. decision ≡ written_decision first.now self) }
+        ensures { IfOk result (λ decision. decision ≡ written_decision first.now self.entry) }
     {
         let Written {
             mut tables,
