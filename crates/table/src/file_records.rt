@@ -1,6 +1,6 @@
 // Records of a table's file by passes over its bytes, and its edits (passwd(5), shadow(5), group(5),
 // gshadow(5), subuid(5), subgid(5)).
-ghost use Rattle.std.specs.Prelude.{◌≡◌, filter, IfOk};
+ghost use Rattle.std.specs.Prelude.{◌≡◌, ◌≤◌, filter, length, IfOk};
 ghost use Rattle.acct_text.specs.Lines.{file_bytes, lines_of};
 ghost use Rattle.account_model.specs.Edits.{edited_by};
 ghost use Rattle.account_model.specs.Format.{is_named, records_of};
@@ -14,7 +14,7 @@ use crate::files::SeenFile;
 use crate::keyed_cells::KeyedCells;
 use crate::named_texts::push_named;
 use crate::search::text_of;
-use acct_tables::{Lines, MANY, Marks, from_marks};
+use acct_tables::{Lines, MANY, from_marks};
 use acct_text::Bytes;
 use line_edits::{ChangedNames, Edit};
 use line_file::FileText;
@@ -62,25 +62,36 @@ fn may_touch_many<R: KeyedRecord>(text: &[u8], edit: &Edit<R, R::Change>) -> boo
     let Edit::Become(change) = edit else {
         return false;
     };
-    match (R::touched_names(change), R::marks(change)) {
-        (Some(ChangedNames::One(_)), _) => false,
-        (_, Some(marks)) => are_many_marked(text, marks),
-        (_, None) => true,
+    match R::touched_names(change) {
+        Some(ChangedNames::One(_)) => false,
+        _ => are_many_open::<R>(text, change),
     }
 }
 
-// Whether so many lines have one of the marks that an index of all saves time.
-fn are_many_marked(text: &[u8], marks: Marks<'_>) -> bool {
+// Whether the change may touch so many lines that an index of all saves time.
+fn are_many_open<R: KeyedRecord>(text: &[u8], change: &R::Change) -> bool {
     let mut count = 0;
-    let mut left = Lines::of(from_marks(text, marks));
-    'lines: while left.take().is_some() {
-        count += 1;
+    let mut left = Lines::of(marked_part::<R>(text, change));
+    'lines: while let Some(line) = left.take() {
+        if !R::leaves(change, line.text) {
+            count += 1;
+        }
         if count == MANY {
             return true;
         }
-        left = Lines::of(from_marks(left.bytes(), marks));
+        left = Lines::of(marked_part::<R>(left.bytes(), change));
     }
     false
+}
+
+// The text from the first line on that has one of the marks of the change; all where it has no marks.
+fn marked_part<'a, R: KeyedRecord>(text: &'a [u8], change: &R::Change) -> &'a [u8]
+    ensures { length (lines_of result.now) ≤ length (lines_of text.now) }
+{
+    match R::marks(change) {
+        Some(marks) => from_marks(text, marks),
+        None => text,
+    }
 }
 
 /// The bytes of a file after the edits, in their order: the lines that they don't touch keep their bytes.

@@ -1,9 +1,9 @@
 use Rattle.std.proofs.Common.{◌<◌, length}
-use Rattle.table.proofs.file_records.are_many_marked.Given as goal
+use Rattle.table.proofs.file_records.are_many_open.Given as goal
 
 -- few lines so far
 abbrev pub invariant-lines : goal.invariant-lines
-invariant-lines l = l.count < 8
+invariant-lines g l = l.count < 8
 
 abbrev pub decreases-lines : goal.decreases-lines
-decreases-lines l = length l.left
+decreases-lines g l = length l.left
