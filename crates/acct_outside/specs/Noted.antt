@@ -1,10 +1,11 @@
 -- What a folder notes in its journal, as contracts see it.
+use Rattle.std.specs.Prelude.{List, ◌∷◌}
 use Rattle.acct_outside.specs.declared.journal.Ask.{Ask}
 use Rattle.acct_outside.specs.declared.journal.Ask.TheVariants.{Enter, Begin, Locks, Read, Verdict, Create, Write, Append, Rename, Remove, Answered}
-use Rattle.acct_outside.specs.declared.journal.CameTo.{CameTo}
-use Rattle.acct_outside.specs.declared.journal.CameTo.TheVariants.{Showed, Done}
+use Rattle.acct_outside.specs.declared.journal.Note.{Note}
+use Rattle.acct_outside.specs.declared.journal.Note.TheVariants.{Asked, Showed, Done}
 use Rattle.acct_outside.specs.Calls.{begins, lists, reads, asks, creates, writes, appends, renames, removes, answers}
-use Rattle.acct_outside.specs.Journal.{Entry, Reply, enters, makes, showed, was_done}
+use Rattle.acct_outside.specs.Journal.{Entry, Reply, enters, makes, replied, showed, was_done, was_refused}
 
 -- what was asked, with what it came to
 abbrev pub asked_with : Ask → Reply → Entry
@@ -21,7 +22,9 @@ asked_with (Rename from to) reply = makes (renames from to) reply
 asked_with (Remove name) reply = makes (removes name) reply
 asked_with (Answered status) reply = makes (answers status) reply
 
--- what a call came to that was done
-abbrev pub reply_in : CameTo → Reply
-reply_in (Showed numbers) = showed numbers.now
-reply_in Done = was_done
+-- The journal with what is noted: what the folder is asked is refused, unless it is told to have come
+-- to something else.
+abbrev pub noted : Note → List Entry → List Entry
+noted (Asked ask) entries = asked_with ask was_refused ∷ entries
+noted (Showed numbers) entries = replied (showed numbers.now) entries
+noted Done entries = replied was_done entries

@@ -45,18 +45,20 @@ pub enum Ask<'a> {
     Answered(u8),
 }
 
-// What a call came to that was done.
+// What a folder notes: what it is asked, or what that came to.
 #[derive(Clone, Copy)]
-pub(crate) enum CameTo<'a> {
-    // A listing showed these numbers.
+pub(crate) enum Note<'a> {
+    // It is asked this.
+    Asked(Ask<'a>),
+    // The listing that was asked for last showed these numbers.
     Showed(&'a [u64]),
-    // Another call was done.
+    // What was asked last was done.
     Done,
 }
 
 impl Journal {
     ghost use Rattle.acct_outside.specs.Journal.{replied, showed, was_done, was_refused};
-    ghost use Rattle.acct_outside.specs.Noted.{asked_with, reply_in};
+    ghost use Rattle.acct_outside.specs.Noted.{asked_with, noted};
 
     /// The journal of a folder that was asked nothing.
     pub fn new() -> Self
@@ -65,16 +67,9 @@ impl Journal {
         Journal {}
     }
 
-    // The journal with one entry more, which was refused.
-    fn with(&self, _asked: &Ask<'_>) -> Self
-        ensures { result.entries ≡ asked_with _asked.now was_refused ∷ self.now.entries }
-    {
-        Journal {}
-    }
-
-    // The journal with another reply of its newest entry.
-    fn with_reply(&self, _came_to: &CameTo<'_>) -> Self
-        ensures { result.entries ≡ replied (reply_in _came_to.now) self.now.entries }
+    // The journal with what is noted.
+    fn with(&self, _note: &Note<'_>) -> Self
+        ensures { result.entries ≡ noted _note.now self.now.entries }
     {
         Journal {}
     }
@@ -83,20 +78,20 @@ impl Journal {
     pub fn note(&mut self, asked: Ask<'_>)
         ensures { self.new.entries ≡ asked_with asked.entry was_refused ∷ self.old.entries }
     {
-        *self = self.with(&asked);
+        *self = self.with(&Note::Asked(asked));
     }
 
     /// Notes that what was asked last was done.
     pub fn done(&mut self)
         ensures { self.new.entries ≡ replied was_done self.old.entries }
     {
-        *self = self.with_reply(&CameTo::Done);
+        *self = self.with(&Note::Done);
     }
 
     /// Notes that the listing that was asked for last showed these numbers.
     pub fn showed(&mut self, numbers: &[u64])
         ensures { self.new.entries ≡ replied (showed numbers.now) self.old.entries }
     {
-        *self = self.with_reply(&CameTo::Showed(numbers));
+        *self = self.with(&Note::Showed(numbers));
     }
 }
