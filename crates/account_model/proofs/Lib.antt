@@ -53,8 +53,7 @@ pub mod UntouchedLaws
 pub mod TextTimes
 pub mod UntouchedDeeds
 pub mod LineTools
-pub mod OrderScripts
-pub mod OrderTools
+pub mod ComposedScripts
 pub mod NamedLaws
 pub mod NamedParts
 pub mod NamedUsers

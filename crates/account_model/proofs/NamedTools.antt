@@ -1,5 +1,5 @@
 -- Claim: the edits of a command spare what it doesn't name (`tool-spares`). Way: tool by tool.
-use Rattle.std.proofs.Common.{◌≡◌, ℕ, Bool, true, false, ◌||◌, List, [], ◌∷◌, ◌++◌, map, refl, ◌∙◌, ap}
+use Rattle.std.proofs.Common.{◌≡◌, ℕ, Bool, true, false, ◌||◌, List, [], ◌∷◌, ◌++◌, map, refl, ◌∙◌, ap, true≢false}
 use Rattle.std.specs.Prelude.{Option, Some, None, codes, ◌==◌, bytes_eq, if◌then◌else◌}
 use Rattle.std.specs.List.{AllByRecursion, list_any}
 use Rattle.std.proofs.lemmas.Bool.{or_parts}
@@ -11,6 +11,7 @@ use Rattle.account_model.specs.declared.tool.Tool.TheVariants.{Useradd, Usermod,
 use Rattle.account_model.specs.Text.{is_listed}
 use Rattle.account_model.specs.Format.{is_named}
 use Rattle.account_model.specs.Records.{passwd_format, shadow_format, subid_format}
+use Rattle.account_model.specs.Edits.{drop_where}
 use Rattle.account_model.specs.Tables.{Script, no_edits, followed_by}
 use Rattle.account_model.specs.Settings.{Setting}
 use Rattle.account_model.specs.Users.{group_named}
@@ -32,9 +33,11 @@ use Rattle.account_model.specs.Pwck.{pwck_report, pwck_sort}
 use Rattle.account_model.specs.Grpck.{grpck_report, grpck_sort}
 use Rattle.account_model.specs.Users.{aging_of}
 use Rattle.account_model.specs.Change.{action_by}
-use Rattle.account_model.specs.NamedLines.{Named, lists_any, named_by, names_nothing}
-use Rattle.account_model.proofs.NamedParts.{administrators-spare, demand-spares, first-has, group-hash-spares, group-spares, hash-spares, lines-spare, members-spare, new-group-spares, removed-spares, shadow-spares}
-use Rattle.account_model.proofs.NamedLaws.{SparesUnnamed, drop-spares, flag-spares, none-spare, not-others, not-owned, not-this, option-spares, order-spares, some-spare, unlisted-stays, where-spares}
+use Rattle.account_model.specs.NamedLines.{Named, lists_any, named_by, names_nothing, names_subid}
+use Rattle.account_model.proofs.NamedParts.{administrators-spare, demand-spares, first-has, each-spares, group-hash-spares, hash-spares, lines-spare, members-spare, new-group-spares, other-user, removed-spares, shadow-spares}
+use Rattle.account_model.specs.DeedLines.{sorts_by}
+use Rattle.account_model.proofs.ComposedScripts.{all-hold, flag-holds, option-holds, some-holds}
+use Rattle.account_model.proofs.NamedLaws.{Spares, SparesUnnamed, drop-spares, groups-spare, not-others, not-owned, not-this, spares-composed, unlisted-stays, users-spare, where-spares}
 use Rattle.account_model.proofs.NamedUsers.{useradd-spares, usermod-spares}
 
 -- ---- userdel
@@ -44,82 +47,80 @@ module _ (request : Request) (files : Files) (settings : List Setting) where
   abbrev userdel_names : Named
   userdel_names = named_by Userdel request [] files
 
+  -- its ranges go
+  ranges-dropped :
+      Spares subid_format false (names_subid userdel_names)
+      (drop_where (is_owned (operand request) (own_uid (operand request) files)))
+  ranges-dropped = drop-spares subid_format false _
+      (is_owned (operand request) (own_uid (operand request) files))
+      (not-owned (operand request) (own_uid (operand request) files))
+
   -- the user goes
-  removal-spares : SparesUnnamed userdel_names (remove_user (operand request) files)
+  removal-spares : SparesUnnamed false userdel_names (remove_user (operand request) files)
   removal-spares = record {
-    passwd = λ r none. (
-      drop-spares passwd_format (is_named passwd_format (operand request)) r
-          (first-has (operand request) [] r.name
-          (or_parts (is_listed r.name userdel_names.users)
-          (list_any (λ gid. r.gid == gid) userdel_names.gids) none).0),
+    passwd = (
+      drop-spares passwd_format false _ (is_named passwd_format (operand request))
+          (other-user userdel_names (operand request) (first-has (operand request) [])),
       tt,
     );
-    shadow = λ r none. (
-      drop-spares shadow_format (is_named shadow_format (operand request)) r
-          (first-has (operand request) [] r.name none),
+    shadow = (
+      drop-spares shadow_format false _ (is_named shadow_format (operand request))
+          (λ r. first-has (operand request) [] r.name),
       tt,
     );
-    group = λ r none. (
-      ap (λ (members : List (List ℕ)). record r { members = members } ∷ [])
+    group = (
+      (λ r none. ap (λ (members : List (List ℕ)). record r { members = members } ∷ [])
           (unlisted-stays (operand request) r.members
           (or_parts (is_listed r.name userdel_names.groups)
-          (lists_any r.members userdel_names.users) none).1),
+          (lists_any r.members userdel_names.users) none).1)),
       tt,
     );
-    gshadow = λ r none.
-        let parts = or_parts (is_listed r.name userdel_names.groups)
-        (lists_any r.members userdel_names.users || lists_any r.administrators userdel_names.users)
-        none
-        in let lists = or_parts (lists_any r.members userdel_names.users)
-        (lists_any r.administrators userdel_names.users) parts.1
-        in (
-          ap (λ (members : List (List ℕ)). record r {
+    gshadow = (
+      (λ r none.
+          let parts = or_parts (is_listed r.name userdel_names.groups)
+          (lists_any r.members userdel_names.users
+          || lists_any r.administrators userdel_names.users) none
+          in let lists = or_parts (lists_any r.members userdel_names.users)
+          (lists_any r.administrators userdel_names.users) parts.1
+          in ap (λ (members : List (List ℕ)). record r {
             administrators = without_name (operand request) r.administrators;
             members = members;
           } ∷ []) (unlisted-stays (operand request) r.members lists.0)
-              ∙ ap (λ (administrators : List (List ℕ)).
-              record r { administrators = administrators } ∷ [])
-              (unlisted-stays (operand request) r.administrators lists.1),
-          tt,
-        );
-    subuid = λ r none. (
-      drop-spares subid_format (is_owned (operand request) (own_uid (operand request) files)) r
-          (not-owned (operand request) (own_uid (operand request) files) r none),
+          ∙ ap (λ (administrators : List (List ℕ)).
+          record r { administrators = administrators } ∷ [])
+          (unlisted-stays (operand request) r.administrators lists.1)),
       tt,
     );
-    subgid = λ r none. (
-      drop-spares subid_format (is_owned (operand request) (own_uid (operand request) files)) r
-          (not-owned (operand request) (own_uid (operand request) files) r none),
-      tt,
-    );
+    subuid = (ranges-dropped, tt);
+    subgid = (ranges-dropped, tt);
   }
 
   -- the user's own group goes or is kept
   own-group-by :
       (own : Option GroupRecord)
-      → SparesUnnamed userdel_names (elim own as (λ group. Script) [
+      → SparesUnnamed false userdel_names (elim own as (λ group. Script) [
         | None ↦ no_edits
         | Some group ↦ elim (reason_to_keep request files group) [
           | None ↦ remove_group (operand request)
           | Some kept ↦ no_edits
         ]
       ])
-  own-group-by None = none-spare userdel_names
+  own-group-by None = (spares-composed userdel_names).none
   own-group-by (Some group) = kept-by (reason_to_keep request files group)
     where
       kept-by :
           (reason : Option Kept)
-          → SparesUnnamed userdel_names
+          → SparesUnnamed false userdel_names
           (elim reason [ None ↦ remove_group (operand request) | Some kept ↦ no_edits ])
       kept-by None = removed-spares userdel_names (operand request)
           (first-has (operand request) [])
-      kept-by (Some kept) = none-spare userdel_names
+      kept-by (Some kept) = (spares-composed userdel_names).none
 
   pub userdel-spares :
-      SparesUnnamed userdel_names
+      SparesUnnamed false userdel_names
       (followed_by (remove_user (operand request) files)
       (followed_by (own_group_script request files settings) no_edits))
-  userdel-spares = order-spares userdel_names
+  userdel-spares = all-hold (spares-composed userdel_names)
       (remove_user (operand request) files ∷ own_group_script request files settings ∷ [])
       (removal-spares, (own-group-by (own_group request files settings), tt))
 
@@ -128,14 +129,14 @@ module _ (request : Request) (files : Files) (settings : List Setting) where
 -- a group, where there is a GID and it isn't there already
 groupadd-by :
     (request : Request) (files : Files) (settings : List Setting) (content : Bool)
-    → SparesUnnamed (named_by Groupadd request [] files) (if content
+    → SparesUnnamed false (named_by Groupadd request [] files) (if content
     then changes (groupadd_checks (operand request) request) no_edits
     else changes (groupadd_checks (operand request) request
     ++ groupadd_conflicts (operand request) request files settings)
     (groupadd_script (operand request) request files settings)).script
-groupadd-by request files settings true = none-spare (named_by Groupadd request [] files)
+groupadd-by request files settings true = (spares-composed (named_by Groupadd request [] files)).none
 groupadd-by request files settings false =
-    some-spare (named_by Groupadd request [] files)
+    some-holds (spares-composed (named_by Groupadd request [] files))
     (λ gid. add_group (operand request) (new_hash request) gid files)
     (new_gid request files settings)
     (λ gid is. new-group-spares (named_by Groupadd request [] files) (operand request)
@@ -160,52 +161,55 @@ module _ (request : Request) (files : Files) where
         | None ↦ []
         | Some gid ↦ elim found as (λ r. List ℕ) [ None ↦ [] | Some old ↦ old.gid ∷ [] ]
       ] ≡ groupmod_names.gids
-      → SparesUnnamed groupmod_names (elim given as (λ n. Script) [
+      → SparesUnnamed false groupmod_names (elim given as (λ n. Script) [
         | None ↦ no_edits
         | Some gid ↦ elim found as (λ r. Script) [
           | None ↦ no_edits
           | Some old ↦ set_gid (operand request) gid old
         ]
       ])
-  gid-by None found are = none-spare groupmod_names
-  gid-by (Some gid) None are = none-spare groupmod_names
+  gid-by None found are = (spares-composed groupmod_names).none
+  gid-by (Some gid) None are = (spares-composed groupmod_names).none
   gid-by (Some gid) (Some old) are = record {
-    passwd = λ r none. (
-      where-spares passwd_format (λ user. user.gid == old.gid)
-          (λ user. record user { gid = gid }) r
-          (or_parts (r.gid == old.gid) false
+    passwd = (
+      where-spares passwd_format false _ (λ user. user.gid == old.gid)
+          (λ user. record user { gid = gid })
+          (λ r none. (or_parts (r.gid == old.gid) false
           (ap (list_any (λ other. r.gid == other)) are
           ∙ (or_parts (is_listed r.name groupmod_names.users)
-          (list_any (λ other. r.gid == other) groupmod_names.gids) none).1)).0,
+          (list_any (λ other. r.gid == other) groupmod_names.gids) none).1)).0),
       tt,
     );
-    shadow = λ r none. tt;
-    group = (group-spares groupmod_names (operand request) groupmod-has
-        (λ r. record r { gid = gid })).group;
-    gshadow = λ r none. tt;
-    subuid = λ r none. tt;
-    subgid = λ r none. tt;
+    shadow = tt;
+    group = (
+      each-spares groupmod_names (operand request) groupmod-has false
+          (λ r. record r { gid = gid }),
+      tt,
+    );
+    gshadow = tt;
+    subuid = tt;
+    subgid = tt;
   }
 
   pub groupmod-spares :
-      SparesUnnamed groupmod_names
+      SparesUnnamed false groupmod_names
       (followed_by (with_option (codes "p") request
       (λ hash. set_group_hash (operand request) hash files))
       (followed_by (gid_script (operand request) request files)
       (followed_by (with_option (codes "n") request (rename_group (operand request))) no_edits)))
-  groupmod-spares = order-spares groupmod_names (
+  groupmod-spares = all-hold (spares-composed groupmod_names) (
       with_option (codes "p") request (λ hash. set_group_hash (operand request) hash files)
       ∷ gid_script (operand request) request files
       ∷ with_option (codes "n") request (rename_group (operand request))
       ∷ []) (
-        option-spares groupmod_names (codes "p") request
+        option-holds (spares-composed groupmod_names) (codes "p") request
             (λ hash. set_group_hash (operand request) hash files)
-            (λ hash. group-hash-spares groupmod_names (operand request) groupmod-has hash files),
+            (λ hash given. group-hash-spares groupmod_names (operand request) groupmod-has hash files),
         (
           gid-by (given_gid request) (group_named (operand request) files) refl,
           (
-            option-spares groupmod_names (codes "n") request (rename_group (operand request))
-                (λ name. lines-spare groupmod_names (operand request) groupmod-has
+            option-holds (spares-composed groupmod_names) (codes "n") request (rename_group (operand request))
+                (λ name given. lines-spare groupmod_names (operand request) groupmod-has
                 (λ r. record r { name = name }) (λ r. record r { name = name })),
             tt,
           ),
@@ -216,11 +220,11 @@ module _ (request : Request) (files : Files) where
   abbrev gpasswd_names : Named
   gpasswd_names = named_by Gpasswd request [] files
 
-  pub gpasswd-spares : SparesUnnamed gpasswd_names (gpasswd_script (operand request) request files)
+  pub gpasswd-spares : SparesUnnamed false gpasswd_names (gpasswd_script (operand request) request files)
   gpasswd-spares =
       let group = operand request
       in let has = first-has group []
-      in order-spares gpasswd_names (
+      in all-hold (spares-composed gpasswd_names) (
       with_option (codes "a") request (add_to_group group)
       ∷ with_option (codes "d") request (remove_from_group group)
       ∷ with_option (codes "A") request (λ users. set_administrators group (list_value users) files)
@@ -228,24 +232,24 @@ module _ (request : Request) (files : Files) where
       ∷ with_flag (codes "r") request (set_group_hash group [] files)
       ∷ with_flag (codes "R") request (set_group_hash group locked files)
       ∷ []) (
-        option-spares gpasswd_names (codes "a") request (add_to_group group)
-            (λ user. members-spare gpasswd_names group has (with_name user)),
+        option-holds (spares-composed gpasswd_names) (codes "a") request (add_to_group group)
+            (λ user given. members-spare gpasswd_names group has (with_name user)),
         (
-          option-spares gpasswd_names (codes "d") request (remove_from_group group)
-              (λ user. members-spare gpasswd_names group has (without_name user)),
+          option-holds (spares-composed gpasswd_names) (codes "d") request (remove_from_group group)
+              (λ user given. members-spare gpasswd_names group has (without_name user)),
           (
-            option-spares gpasswd_names (codes "A") request
+            option-holds (spares-composed gpasswd_names) (codes "A") request
                 (λ users. set_administrators group (list_value users) files)
-                (λ users. administrators-spare gpasswd_names group has (list_value users) files),
+                (λ users given. administrators-spare gpasswd_names group has (list_value users) files),
             (
-              option-spares gpasswd_names (codes "M") request
+              option-holds (spares-composed gpasswd_names) (codes "M") request
                   (λ users. each_members group (λ members. list_value users))
-                  (λ users. members-spare gpasswd_names group has (λ members. list_value users)),
+                  (λ users given. members-spare gpasswd_names group has (λ members. list_value users)),
               (
-                flag-spares gpasswd_names (codes "r") request (set_group_hash group [] files)
+                flag-holds (spares-composed gpasswd_names) (codes "r") request (set_group_hash group [] files)
                     (group-hash-spares gpasswd_names group has [] files),
                 (
-                  flag-spares gpasswd_names (codes "R") request (set_group_hash group locked files)
+                  flag-holds (spares-composed gpasswd_names) (codes "R") request (set_group_hash group locked files)
                       (group-hash-spares gpasswd_names group has locked files),
                   tt,
                 ),
@@ -260,14 +264,14 @@ module _ (request : Request) (files : Files) where
 -- chage, by whether it lists
 chage-by :
     (request : Request) (files : Files) (shown : List ℕ) (lists : Bool)
-    → SparesUnnamed (named_by Chage request [] files) (if lists
+    → SparesUnnamed false (named_by Chage request [] files) (if lists
     then reports (chage_refusals request files) 0 shown
     else changes (chage_refusals request files) (chage_script request files)).script
-chage-by request files shown true = none-spare (named_by Chage request [] files)
+chage-by request files shown true = (spares-composed (named_by Chage request [] files)).none
 chage-by request files shown false =
     let named = named_by Chage request [] files
     in let has = first-has (operand request) []
-    in order-spares named (demand_shadow (operand request) files ∷ _ ∷ []) (
+    in all-hold (spares-composed named) (demand_shadow (operand request) files ∷ _ ∷ []) (
       demand-spares named (operand request) has files,
       (shadow-spares named (operand request) has (with_aging request), tt),
     )
@@ -277,10 +281,10 @@ line-spares :
     (named : Named) (files : Files) (day : ℕ) (line : Line)
     → ((name : List ℕ) → is_listed name named.users ≡ false
     → bytes_eq name (line_name line.text) ≡ false)
-    → SparesUnnamed named (line_script files day line)
+    → SparesUnnamed false named (line_script files day line)
 line-spares named files day line has =
     let user = line_name line.text
-    in order-spares named (demand_shadow user files
+    in all-hold (spares-composed named) (demand_shadow user files
     ∷ each_user_hash user (λ old. line_hash line.text) files
     ∷ set_last_change user day ∷ []) (
       demand-spares named user has files,
@@ -295,7 +299,7 @@ lines-spare-all :
     (named : Named) (files : Files) (day : ℕ) (lines : List Line)
     → ((name : List ℕ) → is_listed name named.users ≡ false
     → is_listed name (map (λ line. line_name line.text) lines) ≡ false)
-    → AllByRecursion (SparesUnnamed named) (map (line_script files day) lines)
+    → AllByRecursion (SparesUnnamed false named) (map (line_script files day) lines)
 lines-spare-all named files day [] has = tt
 lines-spare-all named files day (line ∷ lines) has = (
   line-spares named files day line
@@ -311,32 +315,18 @@ lines-spare-all named files day (line ∷ lines) has = (
 -- pwck, by whether it sorts
 pwck-by :
     (request : Request) (files : Files) (today : ℕ) (sorts : Bool)
-    → SparesUnnamed names_nothing
+    → SparesUnnamed sorts names_nothing
     (if sorts then changes [] (pwck_sort files) else pwck_report request files today).script
-pwck-by request files today true = record {
-  passwd = λ r none. (tt, tt);
-  shadow = λ r none. (tt, tt);
-  group = λ r none. tt;
-  gshadow = λ r none. tt;
-  subuid = λ r none. tt;
-  subgid = λ r none. tt;
-}
-pwck-by request files today false = none-spare names_nothing
+pwck-by request files today true = users-spare _ _ (true≢false, tt) (true≢false, tt)
+pwck-by request files today false = (spares-composed names_nothing).none
 
 -- grpck, by whether it sorts
 grpck-by :
     (files : Files) (sorts : Bool)
-    → SparesUnnamed names_nothing
+    → SparesUnnamed sorts names_nothing
     (if sorts then changes [] (grpck_sort files) else grpck_report files).script
-grpck-by files true = record {
-  passwd = λ r none. tt;
-  shadow = λ r none. tt;
-  group = λ r none. (tt, tt);
-  gshadow = λ r none. (tt, tt);
-  subuid = λ r none. tt;
-  subgid = λ r none. tt;
-}
-grpck-by files false = none-spare names_nothing
+grpck-by files true = groups-spare _ _ (true≢false, tt) (true≢false, tt)
+grpck-by files false = (spares-composed names_nothing).none
 
 -- ---- The claim
 
@@ -344,7 +334,7 @@ module _ (request : Request) (input : List ℕ) (day : ℕ) (files : Files)
     (settings : List Setting) where
   pub tool-spares :
       (tool : Tool)
-      → SparesUnnamed (named_by tool request input files)
+      → SparesUnnamed (sorts_by tool request) (named_by tool request input files)
       (action_by tool request input day files settings).script
   tool-spares Useradd = useradd-spares request files (settings_for request settings) day
   tool-spares Usermod = usermod-spares request files day
@@ -359,8 +349,8 @@ module _ (request : Request) (input : List ℕ) (day : ℕ) (files : Files)
       (has_option (codes "l") request)
   tool-spares Chpasswd =
       let named = named_by Chpasswd request input files
-      in order-spares named (map (line_script files day) (lines_of input))
+      in all-hold (spares-composed named) (map (line_script files day) (lines_of input))
       (lines-spare-all named files day (lines_of input) (λ name none. none))
   tool-spares Pwck = pwck-by request files day (has_option (codes "s") request)
   tool-spares Grpck = grpck-by files (has_option (codes "s") request)
-  tool-spares tool = none-spare names_nothing
+  tool-spares tool = (spares-composed names_nothing).none

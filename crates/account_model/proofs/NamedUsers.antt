@@ -1,7 +1,7 @@
 -- The edits of useradd and usermod spare what these don't name (`useradd-spares`, `usermod-spares`).
 use Rattle.std.proofs.Common.{◌≡◌, ℕ, Bool, true, false, ◌||◌, not, List, [], ◌∷◌, map, refl, ◌∙◌, ap}
-use Rattle.std.specs.Prelude.{Option, Some, None, codes, ◌==◌, bytes_eq, if◌then◌else◌}
-use Rattle.std.specs.List.{AllByRecursion, list_any}
+use Rattle.std.specs.Prelude.{Option, Some, None, codes, bytes_eq, if◌then◌else◌}
+use Rattle.std.specs.List.{AllByRecursion}
 use Rattle.std.proofs.lemmas.Bool.{or_parts}
 use Rattle.acct_text.specs.declared.files.Files.{Files}
 use Rattle.account_model.specs.declared.new_user.Allotment.{Allotment}
@@ -28,13 +28,13 @@ use Rattle.account_model.specs.Edits.{Add, Put}
 use Rattle.account_model.specs.declared.new_user.Plan.{Plan}
 use Rattle.account_model.specs.Useradd.{new_user, add_own_group, add_user, join_groups, new_shadow, plan_of, useradd_script}
 use Rattle.account_model.specs.Usermod.{change_user, changed_group, changed_gshadow, changed_shadow, changed_user, is_listed_group, members_after, new_name, range_owner, subgid_change, subuid_change, uid_after, with_new_name}
-use Rattle.account_model.specs.Userdel.{own_group}
 use Rattle.account_model.specs.SubidOwner.{is_owned, left_without}
 use Rattle.account_model.specs.NamedLines.{Named, lists_any, named_by, names_group, names_gshadow, names_subid, owner_fields}
 use Rattle.account_model.proofs.ListLaws.{all-append}
 use Rattle.account_model.proofs.RenamingLaws.{unlisted_stays}
-use Rattle.account_model.proofs.NamedParts.{demand-spares, first-has, hash-spares, joined-spare, new-group-spares}
-use Rattle.account_model.proofs.NamedLaws.{Spares, SparesUnnamed, either-spare, none-spare, not-others, not-owned, not-this, order-spares, unlisted-in, unlisted-stays, where-spares}
+use Rattle.account_model.proofs.NamedParts.{demand-spares, first-has, hash-spares, joined-spare, new-group-spares, other-user}
+use Rattle.account_model.proofs.ComposedScripts.{all-hold, either-holds}
+use Rattle.account_model.proofs.NamedLaws.{Spares, SparesUnnamed, not-others, not-owned, not-this, spares-composed, unlisted-in, unlisted-stays, users-spare, where-spares}
 
 -- ---- useradd
 
@@ -45,11 +45,12 @@ module _ (request : Request) (files : Files) (settings : List Setting) (day : �
 
   -- a new line of a range
   range-spares :
-      (allotment : Allotment) (r : SubidRecord)
-      → AllByRecursion (Spares subid_format r) (allotted request allotment)
-  range-spares Unwanted r = tt
-  range-spares Full r = tt
-  range-spares (Range first count) r = (tt, tt)
+      (allotment : Allotment)
+      → AllByRecursion (Spares subid_format false (names_subid useradd_names))
+      (allotted request allotment)
+  range-spares Unwanted = tt
+  range-spares Full = tt
+  range-spares (Range first count) = (tt, tt)
 
   -- the lines of passwd and shadow
   abbrev user_lines : ShadowRecord → ℕ → ℕ → Script
@@ -69,46 +70,39 @@ module _ (request : Request) (files : Files) (settings : List Setting) (day : �
   user-spares :
       (shadow : ShadowRecord) (uid gid : ℕ)
       → shadow.name ≡ operand request
-      → SparesUnnamed useradd_names
+      → SparesUnnamed false useradd_names
       (add_user request files (plan_of request files settings) shadow uid gid)
   user-spares shadow uid gid is =
       let plan = plan_of request files settings
-      in order-spares useradd_names (user_lines shadow uid gid
+      in all-hold (spares-composed useradd_names) (user_lines shadow uid gid
       ∷ add_own_group request files plan gid ∷ join_groups request files ∷ range_lines plan ∷ []) (
-        record {
-          passwd = λ r none. (tt, tt);
-          shadow = λ r none. (
-            ap (λ name. bytes_eq r.name name) is
-                ∙ first-has (operand request) [] r.name none,
-            tt,
-          );
-          group = λ r none. tt;
-          gshadow = λ r none. tt;
-          subuid = λ r none. tt;
-          subgid = λ r none. tt;
-        },
+        users-spare _ _ (tt, tt) (
+          (λ r none. ap (λ name. bytes_eq r.name name) is
+              ∙ first-has (operand request) [] r.name none),
+          tt,
+        ),
         (
-          either-spare useradd_names plan.own_group
+          either-holds (spares-composed useradd_names) plan.own_group
               (add_group (operand request) locked gid files) no_edits
               (new-group-spares useradd_names (operand request)
               (first-has (operand request) (map (λ group. group.name) (given_groups request files)))
               locked gid files)
-              (none-spare useradd_names),
+              (spares-composed useradd_names).none,
           (
-            order-spares useradd_names
+            all-hold (spares-composed useradd_names)
                 (map (λ group. add_to_group group.name (operand request))
                 (given_groups request files))
-                (joined-spare useradd_names (operand request) (given_groups request files)
+                (joined-spare false useradd_names (operand request) (given_groups request files)
                 (λ name none. not-others name (operand request)
                 (map (λ group. group.name) (given_groups request files)) none)),
             (
               record {
-                passwd = λ r none. tt;
-                shadow = λ r none. tt;
-                group = λ r none. tt;
-                gshadow = λ r none. tt;
-                subuid = λ r none. range-spares plan.subuid r;
-                subgid = λ r none. range-spares plan.subgid r;
+                passwd = tt;
+                shadow = tt;
+                group = tt;
+                gshadow = tt;
+                subuid = range-spares plan.subuid;
+                subgid = range-spares plan.subgid;
               },
               tt,
             ),
@@ -120,14 +114,15 @@ module _ (request : Request) (files : Files) (settings : List Setting) (day : �
   useradd-by :
       (shadow : ShadowRecord) (uid gid : Option ℕ)
       → shadow.name ≡ operand request
-      → SparesUnnamed useradd_names
+      → SparesUnnamed false useradd_names
       (useradd_script request files (plan_of request files settings) shadow uid gid)
-  useradd-by shadow None gid is = none-spare useradd_names
-  useradd-by shadow (Some uid) None is = none-spare useradd_names
+  useradd-by shadow None gid is = (spares-composed useradd_names).none
+  useradd-by shadow (Some uid) None is = (spares-composed useradd_names).none
   useradd-by shadow (Some uid) (Some gid) is = user-spares shadow uid gid is
 
   pub useradd-spares :
-      SparesUnnamed useradd_names (useradd_script request files (plan_of request files settings)
+      SparesUnnamed false useradd_names
+      (useradd_script request files (plan_of request files settings)
       (new_shadow request settings day) (plan_of request files settings).uid
       (plan_of request files settings).gid)
   useradd-spares = useradd-by (new_shadow request settings day)
@@ -198,80 +193,83 @@ module _ (request : Request) (files : Files) (day : ℕ) where
 
   -- ranges that go
   cuts-spare :
-      (owner : RangeOwner) (ranges : List IdRange) (r : SubidRecord)
-      → is_owned owner.new_name owner.uid r ≡ false
-      → AllByRecursion (Spares subid_format r) (map (cut_range owner) ranges)
-  cuts-spare owner [] r other = tt
-  cuts-spare owner (ids ∷ ranges) r other = (
-    ap (λ (owned : Bool). if owned then left_without ids.first ids.last r else r ∷ []) other,
-    cuts-spare owner ranges r other,
+      (owner : RangeOwner) (ranges : List IdRange)
+      → ((r : SubidRecord) → names_subid usermod_names r ≡ false
+      → is_owned owner.new_name owner.uid r ≡ false)
+      → AllByRecursion (Spares subid_format false (names_subid usermod_names))
+      (map (cut_range owner) ranges)
+  cuts-spare owner [] other = tt
+  cuts-spare owner (ids ∷ ranges) other = (
+    (λ r none. ap (λ (owned : Bool).
+        if owned then left_without ids.first ids.last r else r ∷ []) (other r none)),
+    cuts-spare owner ranges other,
   )
 
   -- ranges that come
   adds-spare :
-      (owner : RangeOwner) (ranges : List IdRange) (r : SubidRecord)
-      → AllByRecursion (Spares subid_format r) (map (add_range owner) ranges)
-  adds-spare owner [] r = tt
-  adds-spare owner (ids ∷ ranges) r = (tt, adds-spare owner ranges r)
+      (owner : RangeOwner) (ranges : List IdRange)
+      → AllByRecursion (Spares subid_format false (names_subid usermod_names))
+      (map (add_range owner) ranges)
+  adds-spare owner [] = tt
+  adds-spare owner (ids ∷ ranges) = (tt, adds-spare owner ranges)
 
   -- the ranges of others
   ranges-spare :
-      (change : RangeChange) (r : SubidRecord)
-      → names_subid usermod_names r ≡ false
-      → AllByRecursion (Spares subid_format r) (range_edits (range_owner request files) change)
-  ranges-spare change r none =
+      (change : RangeChange)
+      → AllByRecursion (Spares subid_format false (names_subid usermod_names))
+      (range_edits (range_owner request files) change)
+  ranges-spare change =
       let owner = range_owner request files
       in let fields = owner_fields (new_name request) (uid_after request files)
-      in all-append (Spares subid_format r)
+      in all-append (Spares subid_format false (names_subid usermod_names))
       (rename_owner owner ∷ map (cut_range owner) change.removed)
       (map (add_range owner) change.added) (
-        where-spares subid_format (is_named subid_format (operand request))
-            (λ one. record one { owner = new_name request }) r
-            (not-this r.owner (operand request) fields none),
-        cuts-spare owner change.removed r
-            (not-owned (new_name request) (uid_after request files) r
+        where-spares subid_format false _ (is_named subid_format (operand request))
+            (λ one. record one { owner = new_name request })
+            (λ r. not-this r.owner (operand request) fields),
+        cuts-spare owner change.removed
+            (λ r none. not-owned (new_name request) (uid_after request files) r
             (not-others r.owner (operand request) fields none)),
       )
-      (adds-spare owner change.added r)
+      (adds-spare owner change.added)
 
   -- the lines of the six tables
-  change-spares : SparesUnnamed usermod_names (change_user request files day)
+  change-spares : SparesUnnamed false usermod_names (change_user request files day)
   change-spares = record {
-    passwd = λ r none. (
-      where-spares passwd_format (is_named passwd_format (operand request))
-          (changed_user request files) r
-          (first-has (operand request) [] r.name
-          (or_parts (is_listed r.name usermod_names.users)
-          (list_any (λ gid. r.gid == gid) usermod_names.gids) none).0),
+    passwd = (
+      where-spares passwd_format false _ (is_named passwd_format (operand request))
+          (changed_user request files)
+          (other-user usermod_names (operand request) (first-has (operand request) [])),
       tt,
     );
-    shadow = λ r none. (
-      where-spares shadow_format (is_named shadow_format (operand request))
-          (changed_shadow request day) r (first-has (operand request) [] r.name none),
+    shadow = (
+      where-spares shadow_format false _ (is_named shadow_format (operand request))
+          (changed_shadow request day) (λ r. first-has (operand request) [] r.name),
       tt,
     );
-    group = λ r none. (group-stays r none, tt);
-    gshadow = λ r none. (gshadow-stays r none, tt);
-    subuid = λ r none. ranges-spare (subuid_change request files) r none;
-    subgid = λ r none. ranges-spare (subgid_change request files) r none;
+    group = (group-stays, tt);
+    gshadow = (gshadow-stays, tt);
+    subuid = ranges-spare (subuid_change request files);
+    subgid = ranges-spare (subgid_change request files);
   }
 
   pub usermod-spares :
-      SparesUnnamed usermod_names
+      SparesUnnamed false usermod_names
       (followed_by (hash_script request files) (followed_by (change_user request files day) no_edits))
   usermod-spares =
       let has = first-has (operand request) []
-      in order-spares usermod_names (hash_script request files ∷ change_user request files day ∷ []) (
-        order-spares usermod_names (_ ∷ _ ∷ []) (
-          either-spare usermod_names (sets_hash request || sets_aging request)
+      in let composed = spares-composed usermod_names
+      in all-hold composed (hash_script request files ∷ change_user request files day ∷ []) (
+        all-hold composed (_ ∷ _ ∷ []) (
+          either-holds composed (sets_hash request || sets_aging request)
               (demand_shadow (operand request) files) no_edits
               (demand-spares usermod_names (operand request) has files)
-              (none-spare usermod_names),
+              composed.none,
           (
-            either-spare usermod_names (sets_hash request)
+            either-holds composed (sets_hash request)
                 (each_user_hash (operand request) (hash_after request) files) no_edits
                 (hash-spares usermod_names (operand request) has (hash_after request) files)
-                (none-spare usermod_names),
+                composed.none,
             tt,
           ),
         ),
