@@ -1,11 +1,16 @@
 -- Scripts together: what holds of no edits, and of two scripts where it holds of each (`IsComposed`), holds of scripts in
 -- their order (`all-hold`), of those of a value, an option or a flag, of one of two, and of the edits of an outcome.
 use Rattle.std.proofs.Common.{◌≡◌, ℕ, Bool, true, false, List, [], ◌∷◌, refl}
-use Rattle.std.specs.Prelude.{Option, Some, None, if◌then◌else◌}
+use Rattle.std.specs.Prelude.{Option, Some, None, Result, Ok, Err, if◌then◌else◌}
 use Rattle.std.specs.List.{AllByRecursion}
+use Rattle.acct_text.specs.declared.files.Files.{Files}
+use Rattle.account_model.specs.declared.refusal.Refusal.{Refusal}
+use Rattle.account_model.specs.Text.{first_some}
 use Rattle.account_model.specs.Tables.{Script, no_edits, followed_by, in_order}
 use Rattle.account_model.specs.Request.{Request, has_option, value_of}
-use Rattle.account_model.specs.Action.{with_flag, with_option}
+use Rattle.account_model.specs.Action.{Action, Made, outcome_of, with_flag, with_option}
+use Rattle.account_model.specs.DeedLines.{edits_by}
+use Rattle.account_model.proofs.BatchLaws.{outcome-made}
 
 -- it holds of no edits, and of two scripts where it holds of each
 pub record IsComposed (Holds : Script → Type 0) : Type 0 where
@@ -51,3 +56,17 @@ module _ {Holds : Script → Type 0} (composed : IsComposed Holds) where
       → Holds (with_flag letter request script)
   flag-holds letter request script is =
       either-holds (has_option letter request) script no_edits is composed.none
+
+  -- the edits of a tool, where what it does is so unless it refuses
+  pub outcome-holds :
+      (action : Action) (files : Files)
+      → (first_some action.refusals ≡ None → Holds action.script)
+      → Holds (edits_by (outcome_of action files) action)
+  outcome-holds action files holds = by (outcome_of action files) refl
+    where
+      by :
+          (outcome : Result Made Refusal)
+          → outcome_of action files ≡ outcome
+          → Holds (edits_by outcome action)
+      by (Ok made) is = holds (outcome-made action files made is).passes
+      by (Err refusal) is = composed.none

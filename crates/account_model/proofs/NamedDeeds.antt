@@ -2,29 +2,26 @@
 -- doesn't sort (`deeds-keep-order`). Way: so do the tools; of a batch each line spares what it doesn't name, and so what all
 -- lines don't name (`both-spare`), and no line of it may sort.
 use Rattle.std.proofs.Common.{◌≡◌, ℕ, Bool, true, false, ◌||◌, List, [], ◌∷◌, ◌++◌, refl}
-use Rattle.std.specs.Prelude.{Option, Result, Ok, Err, unwrap_or, ◌==◌, bytes_eq, if◌then◌else◌}
+use Rattle.std.specs.Prelude.{Option, unwrap_or, ◌==◌, bytes_eq, if◌then◌else◌}
 use Rattle.std.specs.List.{AllByRecursion, list_any}
 use Rattle.std.proofs.lemmas.Bool.{or_parts, or_from}
 use Rattle.acct_text.specs.declared.files.Files.{Files}
 use Rattle.account_model.specs.declared.records.GroupRecord.{GroupRecord}
 use Rattle.account_model.specs.declared.records.GshadowRecord.{GshadowRecord}
 use Rattle.account_model.specs.declared.records.PasswdRecord.{PasswdRecord}
-use Rattle.account_model.specs.declared.refusal.Refusal.{Refusal}
 use Rattle.account_model.specs.Text.{is_listed}
-use Rattle.account_model.specs.declared.tool.Tool.{Tool}
-use Rattle.account_model.specs.declared.tool.Tool.TheVariants.{Pwck, Grpck}
 use Rattle.account_model.specs.Tables.{Script, files_after, followed_by}
 use Rattle.account_model.specs.Settings.{Setting, settings_of}
 use Rattle.account_model.specs.Request.{Request}
 use Rattle.account_model.specs.Words.{is_batch, is_for_lines}
-use Rattle.account_model.specs.Action.{Action, Made, outcome_of}
 use Rattle.account_model.specs.Change.{action_of}
 use Rattle.account_model.specs.BatchLines.{LineRequest, line_requests}
-use Rattle.account_model.specs.DeedLines.{DeedsKeepOrder, edits_by, edits_of_deed, edits_of_lines, edits_on, is_sort, sorts_by}
+use Rattle.account_model.specs.DeedLines.{DeedsKeepOrder, edits_of_deed, edits_of_lines, edits_on, is_sort}
 use Rattle.account_model.specs.NamedLines.{DeedsTouchNamed, Named, lists_any, named_by, named_by_both, named_by_deed, named_by_lines, names_group, names_gshadow, names_nothing, names_passwd}
 use Rattle.account_model.proofs.LineTools.{lines-for-lines}
 use Rattle.account_model.proofs.NamedLaws.{NamesWithin, SparesUnnamed, spares-composed, spares-order, spares-untouched, wider-spares}
-use Rattle.account_model.proofs.NamedTools.{tool-spares}
+use Rattle.account_model.proofs.ComposedScripts.{outcome-holds}
+use Rattle.account_model.proofs.ToolLaws.{meaning}
 
 -- ---- More names
 
@@ -160,31 +157,15 @@ module _ (one other : Named) where
 
 -- ---- Commands
 
--- the edits of a command, by its outcome
-outcome-spares :
-    {sorts : Bool} (named : Named) (action : Action) (outcome : Result Made Refusal)
-    → SparesUnnamed sorts named action.script
-    → SparesUnnamed sorts named (edits_by outcome action)
-outcome-spares named action (Ok made) spares = spares
-outcome-spares named action (Err refusal) spares = (spares-composed named).none
-
 -- the edits of a command spare what it doesn't name
 command-spares :
     (request : Request) (input : List ℕ) (day : ℕ) (files : Files) (settings : List Setting)
     → SparesUnnamed (is_sort request) (named_by request.tool request input files)
     (edits_on request input day files settings)
 command-spares request input day files settings =
-    outcome-spares (named_by request.tool request input files)
-    (action_of request input day files settings)
-    (outcome_of (action_of request input day files settings) files)
-    (tool-spares request input day files settings request.tool)
-
--- a tool that a line of a batch may name doesn't sort
-line-sorts :
-    (tool : Tool) (request : Request) → is_for_lines tool ≡ true → sorts_by tool request ≡ false
-line-sorts Pwck request is = absurd (cc is)
-line-sorts Grpck request is = absurd (cc is)
-line-sorts tool request is = refl
+    outcome-holds (spares-composed (named_by request.tool request input files))
+    (action_of request input day files settings) files
+    (λ none. ((meaning request.tool request input day files settings).script none).spares)
 
 -- the edits of the commands of a batch spare what these don't name, and don't sort
 lines-spare :
@@ -198,7 +179,8 @@ lines-spare (line ∷ rest) day settings files all =
     in let next = files_after first files
     in both-spare (named_by line.request.tool line.request [] files)
     (named_by_lines rest day settings next) first (edits_of_lines rest day settings next)
-    (λ none. line-sorts line.request.tool line.request all.0) (λ none. none)
+    (λ none. (meaning line.request.tool line.request [] day files settings).line all.0)
+    (λ none. none)
     (command-spares line.request [] day files settings)
     (lines-spare rest day settings next all.1)
 

@@ -15,7 +15,6 @@ mod Groupadd
 mod Groupmod
 mod UsermodRanges
 mod Usermod
-mod Days
 mod Tools
 pub mod Deeds
 mod Meetings

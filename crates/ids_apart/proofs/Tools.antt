@@ -10,10 +10,9 @@ use Rattle.account_model.specs.Request.{Request}
 use Rattle.account_model.specs.Settings.{Setting}
 use Rattle.account_model.specs.Action.{Action, multiple_entries}
 use Rattle.account_model.specs.Change.{action_by}
-use Rattle.account_model.specs.WrittenScript.{IsWrittenScript}
+use Rattle.account_model.proofs.LawfulScripts.{IsWrittenOn}
 use Rattle.ids_apart.proofs.Kept.{KeepsApart, gentle-apart, none-gentle}
 use Rattle.ids_apart.proofs.QuietTools.{userdel-gentle, groupdel-gentle, gpasswd-gentle, chage-gentle, chpasswd-gentle, pwck-gentle, grpck-gentle}
-use Rattle.ids_apart.proofs.Days.{without_hashes}
 use Rattle.ids_apart.proofs.Useradd.{useradd-apart}
 use Rattle.ids_apart.proofs.Usermod.{usermod-apart}
 use Rattle.ids_apart.proofs.Groupadd.{groupadd-apart}
@@ -29,7 +28,7 @@ module _ (request : Request) (input : List ℕ) (day : ℕ) (files : Files)
       (tool : Tool)
       → first_some (action tool).refusals ≡ None
       → multiple_entries (action tool).script files ≡ None
-      → IsWrittenScript (without_hashes (action tool).script)
+      → IsWrittenOn day (action tool).script
       → KeepsApart tool request files (action tool).script
   tool-keeps Useradd none single written = useradd-apart request files settings day none
   tool-keeps Usermod none single written =

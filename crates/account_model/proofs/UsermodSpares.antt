@@ -1,134 +1,26 @@
--- The edits of useradd and usermod spare what these don't name (`useradd-spares`, `usermod-spares`).
+-- What usermod changes in the six tables is of the user and the groups that it names (`change-spares`).
 use Rattle.std.proofs.Common.{◌≡◌, ℕ, Bool, true, false, ◌||◌, not, List, [], ◌∷◌, map, refl, ◌∙◌, ap}
-use Rattle.std.specs.Prelude.{Option, Some, None, codes, bytes_eq, if◌then◌else◌}
+use Rattle.std.specs.Prelude.{codes, if◌then◌else◌}
 use Rattle.std.specs.List.{AllByRecursion}
 use Rattle.std.proofs.lemmas.Bool.{or_parts}
 use Rattle.acct_text.specs.declared.files.Files.{Files}
-use Rattle.account_model.specs.declared.new_user.Allotment.{Allotment}
-use Rattle.account_model.specs.declared.new_user.Allotment.TheVariants.{Unwanted, Full, Range}
-use Rattle.account_model.specs.declared.records.ShadowRecord.{ShadowRecord}
 use Rattle.account_model.specs.declared.records.GroupRecord.{GroupRecord}
 use Rattle.account_model.specs.declared.records.GshadowRecord.{GshadowRecord}
 use Rattle.account_model.specs.declared.records.SubidRecord.{SubidRecord}
-use Rattle.account_model.specs.declared.tool.Tool.TheVariants.{Useradd, Usermod}
+use Rattle.account_model.specs.declared.tool.Tool.TheVariants.{Usermod}
 use Rattle.account_model.specs.Text.{is_listed}
 use Rattle.account_model.specs.Format.{is_named}
 use Rattle.account_model.specs.Records.{passwd_format, shadow_format, subid_format}
-use Rattle.account_model.specs.Tables.{Script, no_edits, followed_by}
-use Rattle.account_model.specs.Settings.{Setting}
-use Rattle.account_model.specs.GivenGroups.{given_groups}
 use Rattle.account_model.specs.Request.{Request, has_option, operand}
-use Rattle.account_model.specs.Hashes.{demand_shadow, each_user_hash, locked}
-use Rattle.account_model.specs.Members.{add_to_group, with_name, without_name}
-use Rattle.account_model.specs.NewAccount.{add_group}
-use Rattle.account_model.specs.NewRanges.{allotted}
-use Rattle.account_model.specs.UsermodHash.{hash_after, hash_script, sets_aging, sets_hash}
+use Rattle.account_model.specs.Members.{with_name, without_name}
 use Rattle.account_model.specs.UsermodRanges.{IdRange, RangeChange, RangeOwner, add_range, cut_range, range_edits, rename_owner}
-use Rattle.account_model.specs.Edits.{Add, Put}
-use Rattle.account_model.specs.declared.new_user.Plan.{Plan}
-use Rattle.account_model.specs.Useradd.{new_user, add_own_group, add_user, join_groups, new_shadow, plan_of, useradd_script}
 use Rattle.account_model.specs.Usermod.{change_user, changed_group, changed_gshadow, changed_shadow, changed_user, is_listed_group, members_after, new_name, range_owner, subgid_change, subuid_change, uid_after, with_new_name}
 use Rattle.account_model.specs.SubidOwner.{is_owned, left_without}
 use Rattle.account_model.specs.NamedLines.{Named, lists_any, named_by, names_group, names_gshadow, names_subid, owner_fields}
 use Rattle.account_model.proofs.ListLaws.{all-append}
 use Rattle.account_model.proofs.RenamingLaws.{unlisted_stays}
-use Rattle.account_model.proofs.NamedParts.{demand-spares, first-has, hash-spares, joined-spare, new-group-spares, other-user}
-use Rattle.account_model.proofs.ComposedScripts.{all-hold, either-holds}
-use Rattle.account_model.proofs.NamedLaws.{Spares, SparesUnnamed, not-others, not-owned, not-this, spares-composed, unlisted-in, unlisted-stays, users-spare, where-spares}
-
--- ---- useradd
-
-module _ (request : Request) (files : Files) (settings : List Setting) (day : ℕ) where
-  -- what it names
-  abbrev useradd_names : Named
-  useradd_names = named_by Useradd request [] files
-
-  -- a new line of a range
-  range-spares :
-      (allotment : Allotment)
-      → AllByRecursion (Spares subid_format false (names_subid useradd_names))
-      (allotted request allotment)
-  range-spares Unwanted = tt
-  range-spares Full = tt
-  range-spares (Range first count) = (tt, tt)
-
-  -- the lines of passwd and shadow
-  abbrev user_lines : ShadowRecord → ℕ → ℕ → Script
-  user_lines shadow uid gid = record no_edits {
-    passwd = Add (new_user request files uid gid) ∷ [];
-    shadow = Put shadow ∷ [];
-  }
-
-  -- the lines of ranges
-  abbrev range_lines : Plan → Script
-  range_lines plan = record no_edits {
-    subuid = allotted request plan.subuid;
-    subgid = allotted request plan.subgid;
-  }
-
-  -- a user of this UID and this GID
-  user-spares :
-      (shadow : ShadowRecord) (uid gid : ℕ)
-      → shadow.name ≡ operand request
-      → SparesUnnamed false useradd_names
-      (add_user request files (plan_of request files settings) shadow uid gid)
-  user-spares shadow uid gid is =
-      let plan = plan_of request files settings
-      in all-hold (spares-composed useradd_names) (user_lines shadow uid gid
-      ∷ add_own_group request files plan gid ∷ join_groups request files ∷ range_lines plan ∷ []) (
-        users-spare _ _ (tt, tt) (
-          (λ r none. ap (λ name. bytes_eq r.name name) is
-              ∙ first-has (operand request) [] r.name none),
-          tt,
-        ),
-        (
-          either-holds (spares-composed useradd_names) plan.own_group
-              (add_group (operand request) locked gid files) no_edits
-              (new-group-spares useradd_names (operand request)
-              (first-has (operand request) (map (λ group. group.name) (given_groups request files)))
-              locked gid files)
-              (spares-composed useradd_names).none,
-          (
-            all-hold (spares-composed useradd_names)
-                (map (λ group. add_to_group group.name (operand request))
-                (given_groups request files))
-                (joined-spare false useradd_names (operand request) (given_groups request files)
-                (λ name none. not-others name (operand request)
-                (map (λ group. group.name) (given_groups request files)) none)),
-            (
-              record {
-                passwd = tt;
-                shadow = tt;
-                group = tt;
-                gshadow = tt;
-                subuid = range-spares plan.subuid;
-                subgid = range-spares plan.subgid;
-              },
-              tt,
-            ),
-          ),
-        ),
-      )
-
-  -- by the IDs that there are
-  useradd-by :
-      (shadow : ShadowRecord) (uid gid : Option ℕ)
-      → shadow.name ≡ operand request
-      → SparesUnnamed false useradd_names
-      (useradd_script request files (plan_of request files settings) shadow uid gid)
-  useradd-by shadow None gid is = (spares-composed useradd_names).none
-  useradd-by shadow (Some uid) None is = (spares-composed useradd_names).none
-  useradd-by shadow (Some uid) (Some gid) is = user-spares shadow uid gid is
-
-  pub useradd-spares :
-      SparesUnnamed false useradd_names
-      (useradd_script request files (plan_of request files settings)
-      (new_shadow request settings day) (plan_of request files settings).uid
-      (plan_of request files settings).gid)
-  useradd-spares = useradd-by (new_shadow request settings day)
-      (plan_of request files settings).uid (plan_of request files settings).gid refl
-
--- ---- usermod
+use Rattle.account_model.proofs.NamedParts.{first-has, other-user}
+use Rattle.account_model.proofs.NamedLaws.{Spares, SparesUnnamed, not-others, not-owned, not-this, unlisted-in, unlisted-stays, where-spares}
 
 -- members that stay, whether groups are listed or the user is added
 joined-by :
@@ -142,9 +34,9 @@ joined-by user members false true adds not_listed stays = absurd (cc not_listed)
 joined-by user members false false true not_listed stays = refl
 joined-by user members false false false not_listed stays = stays
 
-module _ (request : Request) (files : Files) (day : ℕ) where
+module _ (request : Request) (files : Files) where
   -- what it names
-  abbrev usermod_names : Named
+  abbrev pub usermod_names : Named
   usermod_names = named_by Usermod request [] files
 
   -- the members of a group that isn't named, among whom the user isn't
@@ -234,8 +126,9 @@ module _ (request : Request) (files : Files) (day : ℕ) where
       (adds-spare owner change.added)
 
   -- the lines of the six tables
-  change-spares : SparesUnnamed false usermod_names (change_user request files day)
-  change-spares = record {
+  pub change-spares :
+      (day : ℕ) → SparesUnnamed false usermod_names (change_user request files day)
+  change-spares day = record {
     passwd = (
       where-spares passwd_format false _ (is_named passwd_format (operand request))
           (changed_user request files)
@@ -252,26 +145,3 @@ module _ (request : Request) (files : Files) (day : ℕ) where
     subuid = ranges-spare (subuid_change request files);
     subgid = ranges-spare (subgid_change request files);
   }
-
-  pub usermod-spares :
-      SparesUnnamed false usermod_names
-      (followed_by (hash_script request files) (followed_by (change_user request files day) no_edits))
-  usermod-spares =
-      let has = first-has (operand request) []
-      in let composed = spares-composed usermod_names
-      in all-hold composed (hash_script request files ∷ change_user request files day ∷ []) (
-        all-hold composed (_ ∷ _ ∷ []) (
-          either-holds composed (sets_hash request || sets_aging request)
-              (demand_shadow (operand request) files) no_edits
-              (demand-spares usermod_names (operand request) has files)
-              composed.none,
-          (
-            either-holds composed (sets_hash request)
-                (each_user_hash (operand request) (hash_after request) files) no_edits
-                (hash-spares usermod_names (operand request) has (hash_after request) files)
-                composed.none,
-            tt,
-          ),
-        ),
-        (change-spares, tt),
-      )
