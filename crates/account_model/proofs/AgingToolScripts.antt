@@ -40,6 +40,7 @@ use Rattle.account_model.proofs.HeldLaws.{shadow-holds, each_where-written}
 use Rattle.account_model.proofs.RefusalFacts.{field-kept}
 use Rattle.account_model.proofs.WrittenScripts.{users-written}
 use Rattle.account_model.proofs.ComposedScripts.{all-hold}
+use Rattle.account_model.proofs.KeptIds.{users-keep}
 use Rattle.account_model.proofs.LawfulParts.{demand-lawful, hash-lawful}
 use Rattle.account_model.proofs.LawfulScripts.{IsLawful, lawful, lawful-composed}
 use Rattle.account_model.proofs.LawfulTools.{IsPlain, LawfulTool, by-choice, quiet-tool}
@@ -195,7 +196,7 @@ aging-held request r is = record {
 -- the edits of chage
 chage-script-lawful :
     {day : ℕ} (request : Request) (files : Files)
-    → IsLawful day false (named_by Chage request [] files) (chage_script request files)
+    → IsLawful day false false (named_by Chage request [] files) (chage_script request files)
 chage-script-lawful request files =
     let named = named_by Chage request [] files
     in let has = first-has (operand request) []
@@ -212,7 +213,8 @@ chage-script-lawful request files =
               (is_named shadow_format (operand request)) (with_aging request)
               (aging-held request),
           tt,
-        )) (shadow-spares named (operand request) has (with_aging request)),
+        )) (shadow-spares named (operand request) has (with_aging request))
+            (λ none. users-keep [] _ tt),
         tt,
       ),
     )
@@ -228,7 +230,7 @@ chage-lawful request input day files settings =
     in let other = changes (chage_refusals request files) (chage_script request files)
     in record {
       script = by-choice (λ action. first_some action.refusals ≡ None
-          → IsLawful day false (named_by Chage request [] files) action.script) lists one other
+          → IsLawful day false false (named_by Chage request [] files) action.script) lists one other
           (λ is none. (lawful-composed _).none) (λ is none. chage-script-lawful request files);
       plain = by-choice IsPlain lists one other (λ is. inl refl) (λ is. inl refl);
       report = λ rules asked. by-choice (λ action. action.script ≡ no_edits) lists one other
@@ -273,7 +275,7 @@ hash-field files text lacks none = record {
 last-change-lawful :
     {day : ℕ} (named : Named) (name : List ℕ)
     → ((other : List ℕ) → is_listed other named.users ≡ false → bytes_eq other name ≡ false)
-    → IsLawful day false named (set_last_change name day)
+    → IsLawful day false false named (set_last_change name day)
 last-change-lawful {day} named name has = record {
   written = record {
     passwd = tt;
@@ -299,6 +301,7 @@ last-change-lawful {day} named name has = record {
     subgid = tt;
   };
   spares = shadow-spares named name has (λ r. record r { last_change = Some day });
+  keep = λ none. users-keep [] _ tt;
 }
 
 -- what a line does
@@ -306,7 +309,7 @@ set-hash-lawful :
     {day : ℕ} (named : Named) (name hash : List ℕ) (files : Files)
     → ((other : List ℕ) → is_listed other named.users ≡ false → bytes_eq other name ≡ false)
     → IsField hash
-    → IsLawful day false named (set_hash name hash files day)
+    → IsLawful day false false named (set_hash name hash files day)
 set-hash-lawful {day} named name hash files has is = all-hold (lawful-composed named)
     (demand_shadow name files ∷ each_user_hash name (λ old. hash) files
     ∷ set_last_change name day ∷ []) (
@@ -336,7 +339,7 @@ lines-lawful :
     → is_listed other (map (λ line. line_name line.text) lines) ≡ false)
     → AllByRecursion (λ line. Lacks newline line.text) lines
     → bad_line_from number files lines ≡ None
-    → AllByRecursion (IsLawful day false named) (map (line_script files day) lines)
+    → AllByRecursion (IsLawful day false false named) (map (line_script files day) lines)
 lines-lawful day number named files [] has apart none = tt
 lines-lawful day number named files (line ∷ lines) has apart none =
     let good = first-good number files line lines (line_problem files line.text) refl none

@@ -38,6 +38,7 @@ use Rattle.account_model.proofs.RefusalFacts.{refuse-none, value-none, good-valu
 use Rattle.account_model.proofs.SettingBounds.{free-gid-small}
 use Rattle.account_model.proofs.WrittenScripts.{groups-written, elsewhere-field, locked-field}
 use Rattle.account_model.proofs.ComposedScripts.{all-hold, flag-holds, option-holds, some-holds}
+use Rattle.account_model.proofs.KeptIds.{KeepIds, drop-keeps, groups-keep, may-give}
 use Rattle.account_model.proofs.LawfulParts.{administrators-lawful, group-hash-lawful, members-lawful}
 use Rattle.account_model.proofs.LawfulScripts.{IsLawful, lawful, lawful-composed}
 use Rattle.account_model.proofs.LawfulTools.{LawfulTool, by-choice, quiet-tool}
@@ -53,13 +54,19 @@ remove-group-written group = groups-written _ _
     (drop_where-written group_format IsGroup group-holds (is_named group_format group), tt)
     (drop_where-written gshadow_format IsGshadow gshadow-holds (is_named gshadow_format group), tt)
 
+-- and give no GID
+pub remove-group-keeps : (group : List ℕ) → KeepIds (remove_group group)
+remove-group-keeps group =
+    groups-keep _ _ (drop-keeps (λ one. one.gid) (is_named group_format group), tt)
+
 -- groupdel adds nothing
 pub groupdel-lawful :
     (request : Request) (input : List ℕ) (day : ℕ) (files : Files) (settings : List Setting)
     → LawfulTool Groupdel request input day files settings
 groupdel-lawful request input day files settings = quiet-tool refl refl refl
     (λ none. lawful (remove-group-written (operand request))
-    (removed-spares _ (operand request) (first-has (operand request) [])))
+    (removed-spares _ (operand request) (first-has (operand request) []))
+    (λ none. remove-group-keeps (operand request)))
 
 -- ---- gpasswd
 
@@ -129,7 +136,7 @@ gpasswd-script-lawful :
     {day : ℕ} (named : Named) (group : List ℕ) (request : Request) (files : Files)
     → ((name : List ℕ) → is_listed name named.groups ≡ false → bytes_eq name group ≡ false)
     → GpasswdPasses group request files
-    → IsLawful day false named (gpasswd_script group request files)
+    → IsLawful day false false named (gpasswd_script group request files)
 gpasswd-script-lawful named group request files has passes =
     let composed = lawful-composed named
     in all-hold composed
@@ -258,7 +265,7 @@ module _ (request : Request) (files : Files) where
         | None ↦ []
         | Some gid ↦ elim found as (λ r. List ℕ) [ None ↦ [] | Some old ↦ old.gid ∷ [] ]
       ] ≡ groupmod_names.gids
-      → IsLawful day false groupmod_names (elim given as (λ n. Script) [
+      → IsLawful day true false groupmod_names (elim given as (λ n. Script) [
         | None ↦ no_edits
         | Some gid ↦ elim found as (λ r. Script) [
           | None ↦ no_edits
@@ -287,13 +294,13 @@ module _ (request : Request) (files : Files) where
         gshadow = tt;
         subuid = tt;
         subgid = tt;
-      })
+      }) may-give
 
   -- the edits of groupmod
   groupmod-script-lawful :
       {day : ℕ}
       → first_some (groupmod request files).refusals ≡ None
-      → IsLawful day false groupmod_names (groupmod request files).script
+      → IsLawful day true false groupmod_names (groupmod request files).script
   groupmod-script-lawful none =
       let group = operand request
       in let composed = lawful-composed groupmod_names
@@ -317,7 +324,7 @@ module _ (request : Request) (files : Files) where
                 (valid-name name (good-value (codes "n") is_valid_name request name
                 after_name.0 given)))
                 (lines-spare groupmod_names group groupmod-has (λ r. record r { name = name })
-                (λ r. record r { name = name }))),
+                (λ r. record r { name = name })) may-give),
             tt,
           ),
         ),
@@ -410,7 +417,7 @@ groupadd-script-lawful :
     {day : ℕ} (request : Request) (files : Files) (settings : List Setting)
     (more : List (Option Refusal))
     → first_some (groupadd_checks (operand request) request ++ more) ≡ None
-    → IsLawful day false (named_by Groupadd request [] files)
+    → IsLawful day true false (named_by Groupadd request [] files)
     (groupadd_script (operand request) request files settings)
 groupadd-script-lawful request files settings more none =
     let name = operand request
@@ -423,7 +430,7 @@ groupadd-script-lawful request files settings more none =
     (valid-name name (refuse-none (is_valid_name name) (BadName name) after_name.0))
     (new-hash-field request after_hash.0)
     (new-gid-by request files settings gid (given_gid request) (given-small (codes "g") request) e))
-    (new-group-spares _ name (first-has name []) (new_hash request) gid files))
+    (new-group-spares _ name (first-has name []) (new_hash request) gid files) may-give)
 
 -- groupadd adds a valid name with an ID, or is content with the group that is there
 pub groupadd-lawful :
@@ -439,7 +446,7 @@ groupadd-lawful request input day files settings =
     in quiet-tool (by-choice (λ action. action.status ≡ 0) content one other
     (λ is. refl) (λ is. refl)) refl refl
     (by-choice (λ action. first_some action.refusals ≡ None
-    → IsLawful day false (named_by Groupadd request [] files) action.script) content one other
+    → IsLawful day true false (named_by Groupadd request [] files) action.script) content one other
     (λ is none. (lawful-composed _).none)
     (λ is. groupadd-script-lawful request files settings
     (groupadd_conflicts name request files settings)))

@@ -1,6 +1,7 @@
 -- What the script of a tool that doesn't refuse is (`IsLawful`): it prints only records that read back, those of shadow on
--- a day that shadow(5) holds; it touches no record that the command doesn't name; and it sorts only where that is asked for.
-use Rattle.std.proofs.Common.{ℕ, ◌≤◌, Bool}
+-- a day that shadow(5) holds; it touches no record that the command doesn't name; it sorts only where that is asked for;
+-- and it gives no ID where the tool gives none.
+use Rattle.std.proofs.Common.{◌≡◌, ℕ, ◌≤◌, Bool, false}
 use Rattle.std.specs.List.{AllByRecursion}
 use Rattle.account_model.specs.Records.{passwd_format, shadow_format, group_format, gshadow_format, subid_format, greatest_days}
 use Rattle.account_model.specs.RecordEdits.{IsWrittenEdit}
@@ -8,6 +9,7 @@ use Rattle.account_model.specs.Tables.{Script}
 use Rattle.account_model.specs.WrittenScript.{IsWrittenScript}
 use Rattle.account_model.specs.NamedLines.{Named}
 use Rattle.account_model.proofs.ComposedScripts.{IsComposed}
+use Rattle.account_model.proofs.KeptIds.{KeepIds, keep-composed}
 use Rattle.account_model.proofs.ListLaws.{all-append}
 use Rattle.account_model.proofs.NamedLaws.{SparesUnnamed, spares-composed}
 
@@ -33,18 +35,20 @@ written-small written small = record {
   subgid = written.subgid;
 }
 
--- what such a script prints, and what it touches
-pub record IsLawful (day : ℕ) (sorts : Bool) (named : Named) (script : Script) : Type 0 where
+-- what such a script prints, what it touches, and what IDs it gives
+pub record IsLawful (day : ℕ) (gives sorts : Bool) (named : Named) (script : Script) : Type 0 where
   pub written : IsWrittenOn day script
   pub spares : SparesUnnamed sorts named script
+  pub keep : gives ≡ false → KeepIds script
 
 -- a script that prints only records which read back, whatever the day
 pub lawful :
-    {day : ℕ} {sorts : Bool} {named : Named} {script : Script}
+    {day : ℕ} {gives sorts : Bool} {named : Named} {script : Script}
     → IsWrittenScript script
     → SparesUnnamed sorts named script
-    → IsLawful day sorts named script
-lawful written spares = record {
+    → (gives ≡ false → KeepIds script)
+    → IsLawful day gives sorts named script
+lawful written spares keep = record {
   written = record {
     passwd = written.passwd;
     shadow = λ small. written.shadow;
@@ -54,15 +58,16 @@ lawful written spares = record {
     subgid = written.subgid;
   };
   spares = spares;
+  keep = keep;
 }
 
 -- no edits are lawful, and so are two lawful scripts
 pub lawful-composed :
-    {day : ℕ} {sorts : Bool} (named : Named) → IsComposed (IsLawful day sorts named)
+    {day : ℕ} {gives sorts : Bool} (named : Named) → IsComposed (IsLawful day gives sorts named)
 lawful-composed named = record {
   none = lawful
       (record { passwd = tt; shadow = tt; group = tt; gshadow = tt; subuid = tt; subgid = tt })
-      (spares-composed named).none;
+      (spares-composed named).none (λ none. keep-composed.none);
   both = λ first second one other. record {
     written = record {
       passwd = all-append _ first.passwd second.passwd one.written.passwd other.written.passwd;
@@ -75,5 +80,6 @@ lawful-composed named = record {
       subgid = all-append _ first.subgid second.subgid one.written.subgid other.written.subgid;
     };
     spares = (spares-composed named).both first second one.spares other.spares;
+    keep = λ none. keep-composed.both first second (one.keep none) (other.keep none);
   };
 }

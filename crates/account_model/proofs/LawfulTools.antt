@@ -4,6 +4,7 @@ use Rattle.std.proofs.Common.{◌≡◌, ◌⊎◌, inl, ℕ, Bool, true, false,
 use Rattle.std.specs.Prelude.{None, if◌then◌else◌}
 use Rattle.acct_text.specs.declared.files.Files.{Files}
 use Rattle.account_model.specs.declared.tool.Tool.{Tool}
+use Rattle.account_model.specs.declared.tool.Tool.TheVariants.{Useradd, Usermod, Groupadd, Groupmod}
 use Rattle.account_model.specs.Text.{first_some}
 use Rattle.account_model.specs.Settings.{Setting}
 use Rattle.account_model.specs.Tables.{no_edits}
@@ -15,6 +16,14 @@ use Rattle.account_model.specs.DeedLines.{sorts_by}
 use Rattle.account_model.specs.NamedLines.{named_by}
 use Rattle.account_model.proofs.LawfulScripts.{IsLawful}
 
+-- the tools that give IDs to users, groups or ranges
+abbrev pub gives_ids : Tool → Bool
+gives_ids Useradd = true
+gives_ids Usermod = true
+gives_ids Groupadd = true
+gives_ids Groupmod = true
+gives_ids tool = false
+
 -- what is done has status 0, or edits nothing
 abbrev pub IsPlain : Action → Type 0
 IsPlain action = (action.status ≡ 0) ⊎ (action.script ≡ no_edits)
@@ -24,7 +33,7 @@ IsPlain action = (action.status ≡ 0) ⊎ (action.script ≡ no_edits)
 pub record LawfulTool (tool : Tool) (request : Request) (input : List ℕ) (day : ℕ) (files : Files)
     (settings : List Setting) : Type 0 where
   pub script : first_some (action_by tool request input day files settings).refusals ≡ None
-      → IsLawful day (sorts_by tool request) (named_by tool request input files)
+      → IsLawful day (gives_ids tool) (sorts_by tool request) (named_by tool request input files)
       (action_by tool request input day files settings).script
   pub plain : IsPlain (action_by tool request input day files settings)
   pub report : broken_rule tool request.options ≡ None → reports tool request ≡ true
@@ -39,7 +48,7 @@ pub quiet-tool :
     → reports tool request ≡ false
     → sorts_by tool request ≡ false
     → (first_some (action_by tool request input day files settings).refusals ≡ None
-    → IsLawful day (sorts_by tool request) (named_by tool request input files)
+    → IsLawful day (gives_ids tool) (sorts_by tool request) (named_by tool request input files)
     (action_by tool request input day files settings).script)
     → LawfulTool tool request input day files settings
 quiet-tool zero silent unsorted script = record {

@@ -55,6 +55,7 @@ pub mod TextTimes
 pub mod UntouchedDeeds
 pub mod LineTools
 pub mod ComposedScripts
+pub mod KeptIds
 pub mod LawfulScripts
 pub mod LawfulTools
 pub mod LawfulParts

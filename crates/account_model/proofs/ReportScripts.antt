@@ -14,6 +14,7 @@ use Rattle.account_model.specs.Action.{Action, changes}
 use Rattle.account_model.specs.Pwck.{pwck_sort, pwck_report}
 use Rattle.account_model.specs.Grpck.{grpck_sort, grpck_report}
 use Rattle.account_model.specs.NamedLines.{names_nothing}
+use Rattle.account_model.proofs.KeptIds.{groups-keep, users-keep}
 use Rattle.account_model.proofs.LawfulScripts.{IsLawful, lawful, lawful-composed}
 use Rattle.account_model.proofs.LawfulTools.{IsPlain, LawfulTool, by-choice, quiet-tool}
 use Rattle.account_model.proofs.NamedLaws.{groups-spare, users-spare}
@@ -64,12 +65,12 @@ not-sorting request unbroken reads = found-given (byte "s") request.options
 -- one that sorts, or reports
 by-sorting :
     {day : ℕ} (sorts : Bool) (sorting : Script) (reporting : Action)
-    → IsLawful day true names_nothing sorting
+    → IsLawful day false true names_nothing sorting
     → no_edits ≡ reporting.script
-    → IsLawful day sorts names_nothing (if sorts then changes [] sorting else reporting).script
+    → IsLawful day false sorts names_nothing (if sorts then changes [] sorting else reporting).script
 by-sorting true sorting reporting is none = is
 by-sorting false sorting reporting is none =
-    subst (IsLawful _ false names_nothing) none (lawful-composed names_nothing).none
+    subst (IsLawful _ false false names_nothing) none (lawful-composed names_nothing).none
 
 module _ (request : Request) (input : List ℕ) (day : ℕ) (files : Files)
     (settings : List Setting) where
@@ -82,7 +83,8 @@ module _ (request : Request) (input : List ℕ) (day : ℕ) (files : Files)
       in record {
         script = λ none. by-sorting sorts (pwck_sort files) other
             (lawful (users-written _ _ (tt, tt) (tt, tt))
-            (users-spare _ _ (true≢false, tt) (true≢false, tt))) refl;
+            (users-spare _ _ (true≢false, tt) (true≢false, tt))
+            (λ none. users-keep _ _ (tt, tt))) refl;
         plain = by-choice IsPlain sorts one other (λ is. inl refl) (λ is. inr refl);
         report = λ rules asked. by-choice (λ action. action.script ≡ no_edits) sorts one other
             (λ is. absurd (true≢false (sym is ∙ not-sorting request rules asked))) (λ is. refl);
@@ -98,7 +100,8 @@ module _ (request : Request) (input : List ℕ) (day : ℕ) (files : Files)
       in record {
         script = λ none. by-sorting sorts (grpck_sort files) other
             (lawful (groups-written _ _ (tt, tt) (tt, tt))
-            (groups-spare _ _ (true≢false, tt) (true≢false, tt))) refl;
+            (groups-spare _ _ (true≢false, tt) (true≢false, tt))
+            (λ none. groups-keep _ _ (tt, tt))) refl;
         plain = by-choice IsPlain sorts one other (λ is. inl refl) (λ is. inr refl);
         report = λ rules asked. by-choice (λ action. action.script ≡ no_edits) sorts one other
             (λ is. absurd (true≢false (sym is ∙ not-sorting request rules asked))) (λ is. refl);

@@ -40,6 +40,7 @@ use Rattle.account_model.proofs.RefusalFacts.{refuse-none, text-kept, field-kept
 use Rattle.account_model.proofs.SettingBounds.{free-uid-small, free-gid-small, minimum-days, maximum-days, warning-days, subuid-maximum, subgid-maximum}
 use Rattle.account_model.proofs.WrittenScripts.{locked-field}
 use Rattle.account_model.proofs.ComposedScripts.{all-hold, either-holds}
+use Rattle.account_model.proofs.KeptIds.{may-give}
 use Rattle.account_model.proofs.LawfulParts.{members-lawful}
 use Rattle.account_model.proofs.LawfulScripts.{IsLawful, lawful, lawful-composed}
 use Rattle.account_model.proofs.LawfulTools.{LawfulTool, quiet-tool}
@@ -310,7 +311,7 @@ joined-lawful :
     → IsListed user
     → ((name : List ℕ) → is_listed name named.groups ≡ false
     → is_listed name (map (λ group. group.name) groups) ≡ false)
-    → AllByRecursion (IsLawful day false named) (map (λ group. add_to_group group.name user) groups)
+    → AllByRecursion (IsLawful day true false named) (map (λ group. add_to_group group.name user) groups)
 joined-lawful day named user [] is has = tt
 joined-lawful day named user (group ∷ groups) is has =
     let others = map (λ other. other.name) groups
@@ -345,7 +346,7 @@ module _ (request : Request) (files : Files) (settings : List Setting) (day : �
       → UseraddPasses request
       → uid ≤ greatest_id
       → gid ≤ greatest_id
-      → IsLawful day false useradd_names (record no_edits {
+      → IsLawful day true false useradd_names (record no_edits {
         passwd = Add (new_user request files uid gid) ∷ [];
         shadow = Put (new_shadow request settings day) ∷ [];
       })
@@ -367,12 +368,13 @@ module _ (request : Request) (files : Files) (settings : List Setting) (day : �
       subgid = tt;
     };
     spares = users-spare _ _ (tt, tt) ((λ r. first-has (operand request) [] r.name), tt);
+    keep = may-give;
   }
 
   -- those of ranges
   range-lines-lawful :
       UseraddPasses request
-      → IsLawful day false useradd_names
+      → IsLawful day true false useradd_names
       (record no_edits {
         subuid = allotted request plan.subuid;
         subgid = allotted request plan.subgid;
@@ -393,7 +395,7 @@ module _ (request : Request) (files : Files) (settings : List Setting) (day : �
     gshadow = tt;
     subuid = range-spares request plan.subuid _;
     subgid = range-spares request plan.subgid _;
-  })
+  }) may-give
 
   -- a user of this UID and this GID
   add-user-lawful :
@@ -401,7 +403,7 @@ module _ (request : Request) (files : Files) (settings : List Setting) (day : �
       → UseraddPasses request
       → uid ≤ greatest_id
       → gid ≤ greatest_id
-      → IsLawful day false useradd_names
+      → IsLawful day true false useradd_names
       (add_user request files plan (new_shadow request settings day) uid gid)
   add-user-lawful uid gid passes small_uid small_gid =
       let composed = lawful-composed useradd_names
@@ -424,7 +426,7 @@ module _ (request : Request) (files : Files) (settings : List Setting) (day : �
               (lawful (add-group-written (operand request) locked gid files
               (valid-name (operand request) passes.name) locked-field small_gid)
               (new-group-spares useradd_names (operand request)
-              (first-has (operand request) others) locked gid files))
+              (first-has (operand request) others) locked gid files) may-give)
               composed.none,
           (
             all-hold composed (map (λ group. add_to_group group.name (operand request))
@@ -443,7 +445,7 @@ module _ (request : Request) (files : Files) (settings : List Setting) (day : �
       → UseraddPasses request
       → ((n : ℕ) → uid ≡ Some n → n ≤ greatest_id)
       → ((n : ℕ) → gid ≡ Some n → n ≤ greatest_id)
-      → IsLawful day false useradd_names
+      → IsLawful day true false useradd_names
       (useradd_script request files plan (new_shadow request settings day) uid gid)
   useradd-script-lawful None gid passes small_uid small_gid = (lawful-composed useradd_names).none
   useradd-script-lawful (Some uid) None passes small_uid small_gid =
@@ -454,7 +456,7 @@ module _ (request : Request) (files : Files) (settings : List Setting) (day : �
   -- useradd under settings
   useradd-under-lawful :
       first_some (useradd_under settings request files day).refusals ≡ None
-      → IsLawful day false useradd_names (useradd_under settings request files day).script
+      → IsLawful day true false useradd_names (useradd_under settings request files day).script
   useradd-under-lawful none =
       useradd-script-lawful (new_uid request files settings) (primary_gid request files settings)
       (useradd-passes request (useradd_conflicts request files plan) none)

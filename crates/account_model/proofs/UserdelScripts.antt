@@ -28,7 +28,8 @@ use Rattle.account_model.proofs.LawfulTools.{LawfulTool, quiet-tool}
 use Rattle.account_model.proofs.NamedLaws.{Spares, SparesUnnamed, drop-spares, not-owned, unlisted-stays}
 use Rattle.account_model.proofs.NamedParts.{first-has, other-user, removed-spares}
 use Rattle.account_model.proofs.MemberLaws.{without-listed}
-use Rattle.account_model.proofs.GroupToolScripts.{remove-group-written}
+use Rattle.account_model.proofs.GroupToolScripts.{remove-group-keeps, remove-group-written}
+use Rattle.account_model.proofs.KeptIds.{KeepIds, drop-keeps, numbers_of}
 
 -- ranges that go
 subid-dropped :
@@ -69,6 +70,15 @@ remove-user-written user files = record {
   );
   subuid = subid-dropped _;
   subgid = subid-dropped _;
+}
+
+-- and gives no ID
+remove-user-keeps : (user : List ℕ) (files : Files) → KeepIds (remove_user user files)
+remove-user-keeps user files = record {
+  passwd = (drop-keeps (λ one. one.uid) (is_named passwd_format user), tt);
+  group = ((λ r. refl), tt);
+  subuid = (drop-keeps numbers_of (is_owned user (own_uid user files)), tt);
+  subgid = (drop-keeps numbers_of (is_owned user (own_uid user files)), tt);
 }
 
 module _ (request : Request) (files : Files) where
@@ -127,10 +137,11 @@ module _ (request : Request) (files : Files) where
   -- the own group of a user goes or is kept
   own-group-lawful :
       {day : ℕ} (kept : Option Kept)
-      → IsLawful day false userdel_names
+      → IsLawful day false false userdel_names
       (elim kept [ None ↦ remove_group (operand request) | Some reason ↦ no_edits ])
   own-group-lawful None = lawful (remove-group-written (operand request))
       (removed-spares userdel_names (operand request) (first-has (operand request) []))
+      (λ none. remove-group-keeps (operand request))
   own-group-lawful (Some reason) = (lawful-composed userdel_names).none
 
 -- userdel adds nothing
@@ -141,7 +152,8 @@ userdel-lawful request input day files settings =
     let composed = lawful-composed (userdel_names request files)
     in quiet-tool refl refl refl (λ none. all-hold composed
     (remove_user (operand request) files ∷ own_group_script request files settings ∷ []) (
-      lawful (remove-user-written (operand request) files) (removal-spares request files),
+      lawful (remove-user-written (operand request) files) (removal-spares request files)
+          (λ none. remove-user-keeps (operand request) files),
       (
         some-holds composed
             (λ group. elim (reason_to_keep request files group) [

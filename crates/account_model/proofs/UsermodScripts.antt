@@ -34,6 +34,7 @@ use Rattle.account_model.proofs.FieldFacts.{is_field-is, is_folder-is, is_shell-
 use Rattle.account_model.proofs.RefusalFacts.{text-kept, field-kept, good-value, user-named, user-listed}
 use Rattle.account_model.proofs.WrittenScripts.{locked-field}
 use Rattle.account_model.proofs.ComposedScripts.{all-hold, either-holds}
+use Rattle.account_model.proofs.KeptIds.{may-give}
 use Rattle.account_model.proofs.LawfulParts.{demand-lawful, hash-lawful}
 use Rattle.account_model.proofs.LawfulScripts.{IsLawful, IsWrittenOn, lawful-composed}
 use Rattle.account_model.proofs.LawfulTools.{LawfulTool, quiet-tool}
@@ -218,7 +219,7 @@ changed-shadow-held request files day r passes small is = record {
 hash-script-lawful :
     {day : ℕ} (request : Request) (files : Files)
     → UsermodPasses request files
-    → IsLawful day false (usermod_names request files) (hash_script request files)
+    → IsLawful day true false (usermod_names request files) (hash_script request files)
 hash-script-lawful request files passes =
     let named = usermod_names request files
     in let composed = lawful-composed named
@@ -389,6 +390,7 @@ usermod-lawful request input day files settings = quiet-tool refl refl refl (λ 
         record {
           written = change-user-written request files day passes;
           spares = change-spares request files day;
+          keep = may-give;
         },
         tt,
       ),

@@ -51,7 +51,6 @@ module _ (request : Request) (input : List ℕ) (day : ℕ) (old : Files) (setti
   -- what the tool keeps apart
   keeps : KeepsApart request.tool request old script
   keeps = tool-keeps request input day old settings request.tool is_made.passes is_made.single
-      written
 
   -- subuid
   subuids-met : (number : ℕ) → MeetNoMore (subuid_holders number old)

@@ -9,7 +9,6 @@ mod Shared
 mod Unused
 mod Kept
 mod Quiet
-mod QuietTools
 mod Useradd
 mod Groupadd
 mod Groupmod
