@@ -43,10 +43,9 @@ use Rattle.account_model.proofs.ComposedScripts.{all-hold}
 use Rattle.account_model.proofs.KeptIds.{users-keep}
 use Rattle.account_model.proofs.LawfulParts.{demand-lawful, hash-lawful}
 use Rattle.account_model.proofs.LawfulScripts.{IsLawful, lawful, lawful-composed}
-use Rattle.account_model.proofs.LawfulTools.{IsPlain, LawfulTool, by-choice, quiet-tool}
+use Rattle.account_model.proofs.LawfulTools.{IsPlain, LawfulTool, by-choice, quiet-act}
 use Rattle.account_model.proofs.NamedLaws.{not-others, not-this}
 use Rattle.account_model.proofs.NamedParts.{first-has, shadow-spares}
-use Rattle.account_model.specs.Settings.{Setting}
 use Rattle.account_model.specs.declared.tool.Tool.TheVariants.{Chage, Chpasswd}
 use Rattle.account_model.specs.NamedLines.{Named, named_by}
 
@@ -220,9 +219,7 @@ chage-script-lawful request files =
     )
 
 -- chage lists, or sets numbers that shadow holds
-pub chage-lawful :
-    (request : Request) (input : List ℕ) (day : ℕ) (files : Files) (settings : List Setting)
-    → LawfulTool Chage request input day files settings
+pub chage-lawful : LawfulTool Chage
 chage-lawful request input day files settings =
     let lists = has_option (codes "l") request
     in let one = reports (chage_refusals request files) 0
@@ -354,12 +351,10 @@ lines-lawful day number named files (line ∷ lines) has apart none =
     )
 
 -- chpasswd sets hashes without `:`
-pub chpasswd-lawful :
-    (request : Request) (input : List ℕ) (day : ℕ) (files : Files) (settings : List Setting)
-    → LawfulTool Chpasswd request input day files settings
+pub chpasswd-lawful : LawfulTool Chpasswd
 chpasswd-lawful request input day files settings =
     let named = named_by Chpasswd request input files
-    in quiet-tool refl refl refl (λ none. all-hold (lawful-composed named)
+    in quiet-act refl refl refl (λ none. all-hold (lawful-composed named)
     (map (line_script files day) (lines_of input))
     (lines-lawful day 1 named files (lines_of input) (λ other unnamed. unnamed)
     (lines_of-are input).apart (first-none (bad_line_from 1 files (lines_of input)) [] none).0))

@@ -41,7 +41,7 @@ use Rattle.account_model.proofs.ComposedScripts.{all-hold, flag-holds, option-ho
 use Rattle.account_model.proofs.KeptIds.{KeepIds, drop-keeps, groups-keep, may-give}
 use Rattle.account_model.proofs.LawfulParts.{administrators-lawful, group-hash-lawful, members-lawful}
 use Rattle.account_model.proofs.LawfulScripts.{IsLawful, lawful, lawful-composed}
-use Rattle.account_model.proofs.LawfulTools.{LawfulTool, by-choice, quiet-tool}
+use Rattle.account_model.proofs.LawfulTools.{LawfulTool, by-choice, quiet-act}
 use Rattle.account_model.proofs.MemberLaws.{with-listed, without-listed}
 use Rattle.account_model.proofs.NamedLaws.{where-spares}
 use Rattle.account_model.proofs.NamedParts.{each-spares, first-has, lines-spare, new-group-spares, removed-spares}
@@ -60,10 +60,8 @@ remove-group-keeps group =
     groups-keep _ _ (drop-keeps (λ one. one.gid) (is_named group_format group), tt)
 
 -- groupdel adds nothing
-pub groupdel-lawful :
-    (request : Request) (input : List ℕ) (day : ℕ) (files : Files) (settings : List Setting)
-    → LawfulTool Groupdel request input day files settings
-groupdel-lawful request input day files settings = quiet-tool refl refl refl
+pub groupdel-lawful : LawfulTool Groupdel
+groupdel-lawful request input day files settings = quiet-act refl refl refl
     (λ none. lawful (remove-group-written (operand request))
     (removed-spares _ (operand request) (first-has (operand request) []))
     (λ none. remove-group-keeps (operand request)))
@@ -180,10 +178,8 @@ gpasswd-script-lawful named group request files has passes =
     )
 
 -- gpasswd adds users that are there and have no comma
-pub gpasswd-lawful :
-    (request : Request) (input : List ℕ) (day : ℕ) (files : Files) (settings : List Setting)
-    → LawfulTool Gpasswd request input day files settings
-gpasswd-lawful request input day files settings = quiet-tool refl refl refl
+pub gpasswd-lawful : LawfulTool Gpasswd
+gpasswd-lawful request input day files settings = quiet-act refl refl refl
     (λ none. gpasswd-script-lawful (named_by Gpasswd request input files) (operand request) request
     files (first-has (operand request) []) (gpasswd-passes (operand request) request files none))
 
@@ -331,11 +327,9 @@ module _ (request : Request) (files : Files) where
       )
 
 -- groupmod sets tested values
-pub groupmod-lawful :
-    (request : Request) (input : List ℕ) (day : ℕ) (files : Files) (settings : List Setting)
-    → LawfulTool Groupmod request input day files settings
+pub groupmod-lawful : LawfulTool Groupmod
 groupmod-lawful request input day files settings =
-    quiet-tool refl refl refl (groupmod-script-lawful request files)
+    quiet-act refl refl refl (groupmod-script-lawful request files)
 
 -- ---- groupadd
 
@@ -433,9 +427,7 @@ groupadd-script-lawful request files settings more none =
     (new-group-spares _ name (first-has name []) (new_hash request) gid files) may-give)
 
 -- groupadd adds a valid name with an ID, or is content with the group that is there
-pub groupadd-lawful :
-    (request : Request) (input : List ℕ) (day : ℕ) (files : Files) (settings : List Setting)
-    → LawfulTool Groupadd request input day files settings
+pub groupadd-lawful : LawfulTool Groupadd
 groupadd-lawful request input day files settings =
     let name = operand request
     in let content = is_content name request files
@@ -443,7 +435,7 @@ groupadd-lawful request input day files settings =
     in let other = changes
     (groupadd_checks name request ++ groupadd_conflicts name request files settings)
     (groupadd_script name request files settings)
-    in quiet-tool (by-choice (λ action. action.status ≡ 0) content one other
+    in quiet-act (by-choice (λ action. action.status ≡ 0) content one other
     (λ is. refl) (λ is. refl)) refl refl
     (by-choice (λ action. first_some action.refusals ≡ None
     → IsLawful day true false (named_by Groupadd request [] files) action.script) content one other

@@ -1,5 +1,5 @@
 -- What each tool keeps to (`LawfulTool`), for all proofs that go over tools. A tool has its value beside its scripts, and
--- `ToolLaws` has all values. One that neither reports nor sorts shows its script alone (`quiet-tool`).
+-- `ToolLaws` has all values. One that neither reports nor sorts shows its script alone (`quiet-act`).
 use Rattle.std.proofs.Common.{◌≡◌, ◌⊎◌, inl, ℕ, Bool, true, false, List, refl, sym, ◌∙◌, true≢false}
 use Rattle.std.specs.Prelude.{None, if◌then◌else◌}
 use Rattle.acct_text.specs.declared.files.Files.{Files}
@@ -28,20 +28,28 @@ gives_ids tool = false
 abbrev pub IsPlain : Action → Type 0
 IsPlain action = (action.status ≡ 0) ⊎ (action.script ≡ no_edits)
 
--- what the tool does, on whatever it is asked: its script is lawful, where it doesn't refuse; it is plain; a report edits
--- nothing; and a line of a batch sorts nothing
-pub record LawfulTool (tool : Tool) (request : Request) (input : List ℕ) (day : ℕ) (files : Files)
+-- what the tool keeps to for a request with its input and the day, on these files under these settings
+pub record LawfulAct (tool : Tool) (request : Request) (input : List ℕ) (day : ℕ) (files : Files)
     (settings : List Setting) : Type 0 where
+  -- its script is lawful, where it doesn't refuse
   pub script : first_some (action_by tool request input day files settings).refusals ≡ None
       → IsLawful day (gives_ids tool) (sorts_by tool request) (named_by tool request input files)
       (action_by tool request input day files settings).script
+  -- what it does is plain
   pub plain : IsPlain (action_by tool request input day files settings)
+  -- a report edits nothing
   pub report : broken_rule tool request.options ≡ None → reports tool request ≡ true
       → (action_by tool request input day files settings).script ≡ no_edits
+  -- a line of a batch sorts nothing
   pub line : is_for_lines tool ≡ true → sorts_by tool request ≡ false
 
--- a tool that has status 0, and neither reports nor sorts
-pub quiet-tool :
+-- what it keeps to, whatever it is asked
+abbrev pub LawfulTool : Tool → Type 0
+LawfulTool tool = (request : Request) (input : List ℕ) (day : ℕ) (files : Files)
+    (settings : List Setting) → LawfulAct tool request input day files settings
+
+-- one that has status 0, neither reports nor sorts, and whose script is lawful
+pub quiet-act :
     {tool : Tool} {request : Request} {input : List ℕ} {day : ℕ} {files : Files}
     {settings : List Setting}
     → (action_by tool request input day files settings).status ≡ 0
@@ -50,8 +58,8 @@ pub quiet-tool :
     → (first_some (action_by tool request input day files settings).refusals ≡ None
     → IsLawful day (gives_ids tool) (sorts_by tool request) (named_by tool request input files)
     (action_by tool request input day files settings).script)
-    → LawfulTool tool request input day files settings
-quiet-tool zero silent unsorted script = record {
+    → LawfulAct tool request input day files settings
+quiet-act zero silent unsorted script = record {
   script = script;
   plain = inl zero;
   report = λ rules is. absurd (true≢false (sym is ∙ silent));

@@ -16,7 +16,7 @@ use Rattle.account_model.specs.Grpck.{grpck_sort, grpck_report}
 use Rattle.account_model.specs.NamedLines.{names_nothing}
 use Rattle.account_model.proofs.KeptIds.{groups-keep, users-keep}
 use Rattle.account_model.proofs.LawfulScripts.{IsLawful, lawful, lawful-composed}
-use Rattle.account_model.proofs.LawfulTools.{IsPlain, LawfulTool, by-choice, quiet-tool}
+use Rattle.account_model.proofs.LawfulTools.{IsPlain, LawfulAct, by-choice, quiet-act}
 use Rattle.account_model.proofs.NamedLaws.{groups-spare, users-spare}
 use Rattle.account_model.proofs.WrittenScripts.{groups-written, users-written}
 
@@ -75,7 +75,7 @@ by-sorting false sorting reporting is none =
 module _ (request : Request) (input : List ℕ) (day : ℕ) (files : Files)
     (settings : List Setting) where
   -- pwck sorts users, or reports
-  pub pwck-lawful : LawfulTool Pwck request input day files settings
+  pub pwck-lawful : LawfulAct Pwck request input day files settings
   pwck-lawful =
       let sorts = has_option (codes "s") request
       in let one = changes [] (pwck_sort files)
@@ -92,7 +92,7 @@ module _ (request : Request) (input : List ℕ) (day : ℕ) (files : Files)
       }
 
   -- grpck sorts groups, or reports
-  pub grpck-lawful : LawfulTool Grpck request input day files settings
+  pub grpck-lawful : LawfulAct Grpck request input day files settings
   grpck-lawful =
       let sorts = has_option (codes "s") request
       in let one = changes [] (grpck_sort files)
@@ -109,7 +109,7 @@ module _ (request : Request) (input : List ℕ) (day : ℕ) (files : Files)
       }
 
   -- getsubids edits nothing
-  pub getsubids-lawful : LawfulTool Getsubids request input day files settings
+  pub getsubids-lawful : LawfulAct Getsubids request input day files settings
   getsubids-lawful = record {
     script = λ none. (lawful-composed names_nothing).none;
     plain = inl refl;
@@ -118,5 +118,5 @@ module _ (request : Request) (input : List ℕ) (day : ℕ) (files : Files)
   }
 
   -- nor does a batch by itself
-  pub batch-lawful : LawfulTool Batch request input day files settings
-  batch-lawful = quiet-tool refl refl refl (λ none. (lawful-composed names_nothing).none)
+  pub batch-lawful : LawfulAct Batch request input day files settings
+  batch-lawful = quiet-act refl refl refl (λ none. (lawful-composed names_nothing).none)

@@ -20,10 +20,7 @@ use Rattle.account_model.proofs.AgingToolScripts.{chage-lawful, chpasswd-lawful}
 use Rattle.account_model.proofs.ReportScripts.{pwck-lawful, grpck-lawful, getsubids-lawful, batch-lawful}
 
 -- what each tool means is lawful
-pub meaning :
-    (tool : Tool) (request : Request) (input : List ℕ) (day : ℕ) (files : Files)
-    (settings : List Setting)
-    → LawfulTool tool request input day files settings
+pub meaning : (tool : Tool) → LawfulTool tool
 meaning Useradd = useradd-lawful
 meaning Usermod = usermod-lawful
 meaning Userdel = userdel-lawful

@@ -43,7 +43,7 @@ use Rattle.account_model.proofs.ComposedScripts.{all-hold, either-holds}
 use Rattle.account_model.proofs.KeptIds.{may-give}
 use Rattle.account_model.proofs.LawfulParts.{members-lawful}
 use Rattle.account_model.proofs.LawfulScripts.{IsLawful, lawful, lawful-composed}
-use Rattle.account_model.proofs.LawfulTools.{LawfulTool, quiet-tool}
+use Rattle.account_model.proofs.LawfulTools.{LawfulTool, quiet-act}
 use Rattle.account_model.proofs.MemberLaws.{with-listed}
 use Rattle.account_model.proofs.NamedLaws.{Spares, not-others, not-this, users-spare}
 use Rattle.account_model.proofs.NamedParts.{first-has, new-group-spares}
@@ -463,8 +463,6 @@ module _ (request : Request) (files : Files) (settings : List Setting) (day : �
       (new-uid-small request files settings) (primary-gid-small request files settings)
 
 -- useradd adds a valid name with tested values and IDs
-pub useradd-lawful :
-    (request : Request) (input : List ℕ) (day : ℕ) (files : Files) (settings : List Setting)
-    → LawfulTool Useradd request input day files settings
-useradd-lawful request input day files settings = quiet-tool refl refl refl
+pub useradd-lawful : LawfulTool Useradd
+useradd-lawful request input day files settings = quiet-act refl refl refl
     (useradd-under-lawful request files (settings_for request settings) day)

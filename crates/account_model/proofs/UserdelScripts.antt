@@ -17,14 +17,13 @@ use Rattle.account_model.specs.Edits.{drop_where}
 use Rattle.account_model.specs.Written.{IsPasswd, IsShadow, IsGroup, IsGshadow, IsSubid}
 use Rattle.account_model.specs.Tables.{no_edits}
 use Rattle.account_model.specs.WrittenScript.{IsWrittenScript}
-use Rattle.account_model.specs.Settings.{Setting}
 use Rattle.account_model.specs.Request.{Request, operand}
 use Rattle.account_model.specs.Groupdel.{remove_group}
 use Rattle.account_model.specs.Userdel.{Kept, group_without, gshadow_without, remove_user, own_group, own_uid, reason_to_keep, own_group_script}
 use Rattle.account_model.proofs.HeldLaws.{passwd-holds, shadow-holds, group-holds, gshadow-holds, subid-holds, each-written, drop_where-written}
 use Rattle.account_model.proofs.ComposedScripts.{all-hold, some-holds}
 use Rattle.account_model.proofs.LawfulScripts.{IsLawful, lawful, lawful-composed}
-use Rattle.account_model.proofs.LawfulTools.{LawfulTool, quiet-tool}
+use Rattle.account_model.proofs.LawfulTools.{LawfulTool, quiet-act}
 use Rattle.account_model.proofs.NamedLaws.{Spares, SparesUnnamed, drop-spares, not-owned, unlisted-stays}
 use Rattle.account_model.proofs.NamedParts.{first-has, other-user, removed-spares}
 use Rattle.account_model.proofs.MemberLaws.{without-listed}
@@ -145,12 +144,10 @@ module _ (request : Request) (files : Files) where
   own-group-lawful (Some reason) = (lawful-composed userdel_names).none
 
 -- userdel adds nothing
-pub userdel-lawful :
-    (request : Request) (input : List ℕ) (day : ℕ) (files : Files) (settings : List Setting)
-    → LawfulTool Userdel request input day files settings
+pub userdel-lawful : LawfulTool Userdel
 userdel-lawful request input day files settings =
     let composed = lawful-composed (userdel_names request files)
-    in quiet-tool refl refl refl (λ none. all-hold composed
+    in quiet-act refl refl refl (λ none. all-hold composed
     (remove_user (operand request) files ∷ own_group_script request files settings ∷ []) (
       lawful (remove-user-written (operand request) files) (removal-spares request files)
           (λ none. remove-user-keeps (operand request) files),

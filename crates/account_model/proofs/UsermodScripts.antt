@@ -37,11 +37,10 @@ use Rattle.account_model.proofs.ComposedScripts.{all-hold, either-holds}
 use Rattle.account_model.proofs.KeptIds.{may-give}
 use Rattle.account_model.proofs.LawfulParts.{demand-lawful, hash-lawful}
 use Rattle.account_model.proofs.LawfulScripts.{IsLawful, IsWrittenOn, lawful-composed}
-use Rattle.account_model.proofs.LawfulTools.{LawfulTool, quiet-tool}
+use Rattle.account_model.proofs.LawfulTools.{LawfulTool, quiet-act}
 use Rattle.account_model.proofs.NamedParts.{first-has}
 use Rattle.account_model.proofs.UsermodSpares.{change-spares, usermod_names}
 use Rattle.account_model.specs.declared.tool.Tool.TheVariants.{Usermod}
-use Rattle.account_model.specs.Settings.{Setting}
 use Rattle.account_model.proofs.MemberLaws.{with-listed, without-listed, renamed-listed}
 use Rattle.account_model.proofs.UsermodRangeScripts.{added-ordered, range-edits-written}
 use Rattle.account_model.proofs.GivenFacts.{given-group-gid, expiration-held}
@@ -378,10 +377,8 @@ change-user-written request files day passes = record {
 }
 
 -- usermod sets tested values
-pub usermod-lawful :
-    (request : Request) (input : List ℕ) (day : ℕ) (files : Files) (settings : List Setting)
-    → LawfulTool Usermod request input day files settings
-usermod-lawful request input day files settings = quiet-tool refl refl refl (λ none.
+pub usermod-lawful : LawfulTool Usermod
+usermod-lawful request input day files settings = quiet-act refl refl refl (λ none.
     let passes = usermod-passes request files none
     in all-hold (lawful-composed (usermod_names request files))
     (hash_script request files ∷ change_user request files day ∷ []) (

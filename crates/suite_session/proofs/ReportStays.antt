@@ -2,29 +2,24 @@
 -- Way: a report has no edits (`report` of `LawfulTool`), so its tables stay (`outcome-stays`).
 -- A batch is no report, also where each of its lines asks for one (`report-single`).
 use Rattle.std.proofs.Common.{◌≡◌, refl, sym, ap, ◌∙◌, ℕ, Bool, true, false, List, [], Option, Some, None, Ok, Err, true≢false}
-use Rattle.std.specs.Str.{byte}
-use Rattle.std.specs.Prelude.{codes, cond, find, is_some, if◌then◌else◌, option_map, position, unwrap_or}
+use Rattle.std.specs.Prelude.{if◌then◌else◌, unwrap_or}
 use Rattle.acct_text.specs.Bytes.{Bytes}
-use Rattle.acct_text.specs.Contents.{same_content}
 use Rattle.acct_text.specs.declared.files.Files.{Files}
 use Rattle.account_model.specs.Tables.{Script, no_edits, files_after}
 use Rattle.account_model.proofs.NoEdits.{files-stay}
 use Rattle.account_model.proofs.ToolLaws.{meaning}
-use Rattle.account_model.specs.declared.given.Given.{Given}
 use Rattle.account_model.specs.declared.tool.Tool.{Tool}
-use Rattle.account_model.specs.declared.tool.Tool.TheVariants.{Chage, Pwck, Grpck, Getsubids, Batch}
+use Rattle.account_model.specs.declared.tool.Tool.TheVariants.{Batch}
 use Rattle.account_model.specs.BatchLines.{line_requests}
-use Rattle.account_model.specs.Options.{Word, is_given, not_both, some_of}
-use Rattle.account_model.specs.Request.{Request, has_option, is_report, reports as is_reporting}
+use Rattle.account_model.specs.Options.{Word}
+use Rattle.account_model.specs.Request.{Request, is_report, reports as is_reporting}
 use Rattle.account_model.specs.Settings.{Setting, settings_of}
-use Rattle.account_model.specs.Words.{Asks, broken_rule, is_batch}
+use Rattle.account_model.specs.Words.{Asks, is_batch}
 use Rattle.account_model.specs.declared.refusal.Refusal.{Refusal}
 use Rattle.account_model.specs.Text.{first_some}
-use Rattle.account_model.specs.Action.{Action, Made, made_by, multiple_entries, outcome_of, changes}
+use Rattle.account_model.specs.Action.{Action, Made, made_by, multiple_entries, outcome_of}
 use Rattle.account_model.specs.Batch.{batch, ensures, written_by}
-use Rattle.account_model.specs.Change.{action_by, action_of}
-use Rattle.account_model.specs.Grpck.{grpck_report, grpck_sort}
-use Rattle.account_model.specs.Pwck.{pwck_report, pwck_sort}
+use Rattle.account_model.specs.Change.{action_of}
 use Rattle.account_model.specs.Answer.{FileProblem, Answer, Same, Changed, answer, answer_lines, answer_outcome, answer_under, answer_written, files_eq, files_problem, new_problem, succeeding, unusable}
 use Rattle.suite_answers.proofs.ChangeLemmas.{same-files}
 use Rattle.suite_session.specs.Answers.{answer_on}
