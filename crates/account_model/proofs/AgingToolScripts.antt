@@ -1,7 +1,6 @@
--- chage and chpasswd print only records that read back, where they don't refuse: `chage-written`, `chpasswd-written`.
--- Way: a date of four digits of the year is less than the greatest day; the hash of a line of the input has no `:`, as
+-- chage and chpasswd are lawful: `chage-lawful`, `chpasswd-lawful`. Way: a date of four digits of the year is less than the greatest day; the hash of a line of the input has no `:`, as
 -- the line isn't refused, and no newline, as it is part of a line.
-use Rattle.std.proofs.Common.{◌≡◌, zero, suc, ℕ, ◌+◌, ◌-◌, ◌*◌, ◌<◌, ◌≤◌, ◌^◌, Bool, true, false, ◌&&◌, not, Ok, Err, List, [], ◌∷◌, length, map, refl, subst, arith, inl, inr}
+use Rattle.std.proofs.Common.{◌≡◌, zero, suc, ℕ, ◌+◌, ◌-◌, ◌*◌, ◌<◌, ◌≤◌, ◌^◌, Bool, true, false, ◌&&◌, not, Ok, Err, List, [], ◌∷◌, length, map, refl, sym, ◌∙◌, subst, arith, inl, inr, true≢false}
 use Rattle.std.specs.Prelude.{Option, Some, None, ◌==◌, codes, bytes_eq, nat_le, nat_lt, option_map, if◌then◌else◌, drop, Result}
 use Rattle.std.specs.List.{AllByRecursion, position_or_len}
 use Rattle.std.specs.Str.Parse.{digits_value}
@@ -19,28 +18,36 @@ use Rattle.account_model.specs.declared.refusal.LineProblem.{LineProblem}
 use Rattle.account_model.specs.declared.refusal.LineProblem.TheVariants.{NoColon, HashColon, UnknownUser, LineEnd}
 use Rattle.account_model.specs.declared.refusal.Refusal.{Refusal}
 use Rattle.account_model.specs.declared.refusal.Refusal.TheVariants.{BadLine}
-use Rattle.account_model.specs.Text.{hyphen, has_byte, first_some}
+use Rattle.account_model.specs.Text.{hyphen, has_byte, first_some, is_listed}
 use Rattle.account_model.specs.Format.{is_named}
 use Rattle.account_model.specs.LineWords.{ends_in_return}
 use Rattle.account_model.specs.Edits.{each_where}
 use Rattle.account_model.specs.Records.{shadow_format, greatest_days}
 use Rattle.account_model.specs.Written.{IsField, IsDaysNumber, IsShadow}
 use Rattle.account_model.specs.Tables.{no_edits}
-use Rattle.account_model.specs.WrittenScript.{IsWrittenScript}
 use Rattle.account_model.specs.Dates.{Date, DayFault, is_leap_year, no_day_shape, no_such_day, day_out_of_range, is_date, day_of, days_of_years, days_in_year, are_digits, written_date, day_of_written, read_date_pieces, read_day_number, read_day}
 use Rattle.account_model.specs.Values.{days_value, date_value}
 use Rattle.account_model.specs.Hashes.{demand_shadow, each_user_hash}
 use Rattle.account_model.specs.Users.{has_user, aging_of}
 use Rattle.account_model.specs.Request.{Request, has_option, operand}
 use Rattle.account_model.specs.Action.{changes, reports}
-use Rattle.account_model.specs.Chage.{with_aging, chage_refusals, chage_script, aging_report, chage}
-use Rattle.account_model.specs.Chpasswd.{line_name, line_hash, line_problem, bad_line_from, set_last_change, set_hash, line_script, chpasswd}
+use Rattle.account_model.specs.Chage.{with_aging, chage_refusals, chage_script, aging_report}
+use Rattle.account_model.specs.Chpasswd.{line_name, line_hash, line_problem, bad_line_from, set_last_change, set_hash, line_script}
 use Rattle.account_model.proofs.DatesLaws.{date_parts, within_year}
 use Rattle.account_model.proofs.DeedLaws.{first-none}
 use Rattle.account_model.proofs.FieldFacts.{lacks-byte}
 use Rattle.account_model.proofs.HeldLaws.{shadow-holds, each_where-written}
 use Rattle.account_model.proofs.RefusalFacts.{field-kept}
-use Rattle.account_model.proofs.WrittenScripts.{none-written, users-written, order-written, demand-shadow-written, user-hash-written}
+use Rattle.account_model.proofs.WrittenScripts.{users-written}
+use Rattle.account_model.proofs.ComposedScripts.{all-hold}
+use Rattle.account_model.proofs.KeptIds.{users-keep}
+use Rattle.account_model.proofs.LawfulParts.{demand-lawful, hash-lawful}
+use Rattle.account_model.proofs.LawfulScripts.{IsLawful, lawful, lawful-composed}
+use Rattle.account_model.proofs.LawfulTools.{IsPlain, LawfulTool, by-choice, quiet-act}
+use Rattle.account_model.proofs.NamedLaws.{not-others, not-this}
+use Rattle.account_model.proofs.NamedParts.{first-has, shadow-spares}
+use Rattle.account_model.specs.declared.tool.Tool.TheVariants.{Chage, Chpasswd}
+use Rattle.account_model.specs.NamedLines.{Named, named_by}
 
 -- ---- Numbers of days and dates
 
@@ -186,43 +193,47 @@ aging-held request r is = record {
 }
 
 -- the edits of chage
-chage-script-written :
-    (request : Request) (files : Files)
-    → IsWrittenScript (chage_script request files)
-chage-script-written request files = order-written
+chage-script-lawful :
+    {day : ℕ} (request : Request) (files : Files)
+    → IsLawful day false false (named_by Chage request [] files) (chage_script request files)
+chage-script-lawful request files =
+    let named = named_by Chage request [] files
+    in let has = first-has (operand request) []
+    in all-hold (lawful-composed named)
     (demand_shadow (operand request) files
     ∷ record no_edits {
       shadow = each_where (is_named shadow_format (operand request)) (with_aging request) ∷ [];
     }
     ∷ []) (
-      demand-shadow-written (operand request) files,
+      demand-lawful named (operand request) has files,
       (
-        users-written [] _ tt (
+        lawful (users-written [] _ tt (
           each_where-written shadow_format IsShadow shadow-holds
               (is_named shadow_format (operand request)) (with_aging request)
               (aging-held request),
           tt,
-        ),
+        )) (shadow-spares named (operand request) has (with_aging request))
+            (λ none. users-keep [] _ tt),
         tt,
       ),
     )
 
--- what chage does, by whether it lists
-chage-by :
-    (request : Request) (files : Files) (lists : Bool) (shown : List ℕ)
-    → IsWrittenScript (if lists
-    then reports (chage_refusals request files) 0 shown
-    else changes (chage_refusals request files) (chage_script request files)).script
-chage-by request files true shown = none-written
-chage-by request files false shown = chage-script-written request files
-
--- chage sets numbers that shadow holds
-pub chage-written :
-    (request : Request) (files : Files)
-    → IsWrittenScript (chage request files).script
-chage-written request files =
-    chage-by request files (has_option (codes "l") request)
+-- chage lists, or sets numbers that shadow holds
+pub chage-lawful : LawfulTool Chage
+chage-lawful request input day files settings =
+    let lists = has_option (codes "l") request
+    in let one = reports (chage_refusals request files) 0
     (aging_report (aging_of (operand request) files))
+    in let other = changes (chage_refusals request files) (chage_script request files)
+    in record {
+      script = by-choice (λ action. first_some action.refusals ≡ None
+          → IsLawful day false false (named_by Chage request [] files) action.script) lists one other
+          (λ is none. (lawful-composed _).none) (λ is none. chage-script-lawful request files);
+      plain = by-choice IsPlain lists one other (λ is. inl refl) (λ is. inl refl);
+      report = λ rules asked. by-choice (λ action. action.script ≡ no_edits) lists one other
+          (λ is. refl) (λ is. absurd (true≢false (sym asked ∙ is)));
+      line = λ may. refl;
+    }
 
 -- ---- chpasswd
 
@@ -258,40 +269,51 @@ hash-field files text lacks none = record {
 }
 
 -- the last change of a user
-last-change-written :
-    (name : List ℕ) (day : ℕ)
-    → day ≤ greatest_days
-    → IsWrittenScript (set_last_change name day)
-last-change-written name day small = users-written [] _ tt (
-  each_where-written shadow_format IsShadow shadow-holds (is_named shadow_format name)
-      (λ r. record r { last_change = Some day })
-      (λ r is. record {
-        name = is.name;
-        hash = is.hash;
-        last_change = small;
-        minimum = is.minimum;
-        maximum = is.maximum;
-        warning = is.warning;
-        inactive = is.inactive;
-        expiration = is.expiration;
-        rest = is.rest;
-      }),
-  tt,
-)
+last-change-lawful :
+    {day : ℕ} (named : Named) (name : List ℕ)
+    → ((other : List ℕ) → is_listed other named.users ≡ false → bytes_eq other name ≡ false)
+    → IsLawful day false false named (set_last_change name day)
+last-change-lawful {day} named name has = record {
+  written = record {
+    passwd = tt;
+    shadow = λ small. (
+      each_where-written shadow_format IsShadow shadow-holds (is_named shadow_format name)
+          (λ r. record r { last_change = Some day })
+          (λ r is. record {
+            name = is.name;
+            hash = is.hash;
+            last_change = small;
+            minimum = is.minimum;
+            maximum = is.maximum;
+            warning = is.warning;
+            inactive = is.inactive;
+            expiration = is.expiration;
+            rest = is.rest;
+          }),
+      tt,
+    );
+    group = tt;
+    gshadow = tt;
+    subuid = tt;
+    subgid = tt;
+  };
+  spares = shadow-spares named name has (λ r. record r { last_change = Some day });
+  keep = λ none. users-keep [] _ tt;
+}
 
 -- what a line does
-set-hash-written :
-    (name hash : List ℕ) (files : Files) (day : ℕ)
+set-hash-lawful :
+    {day : ℕ} (named : Named) (name hash : List ℕ) (files : Files)
+    → ((other : List ℕ) → is_listed other named.users ≡ false → bytes_eq other name ≡ false)
     → IsField hash
-    → day ≤ greatest_days
-    → IsWrittenScript (set_hash name hash files day)
-set-hash-written name hash files day is small = order-written
+    → IsLawful day false false named (set_hash name hash files day)
+set-hash-lawful {day} named name hash files has is = all-hold (lawful-composed named)
     (demand_shadow name files ∷ each_user_hash name (λ old. hash) files
     ∷ set_last_change name day ∷ []) (
-      demand-shadow-written name files,
+      demand-lawful named name has files,
       (
-        user-hash-written name (λ old. hash) files (λ old held. is),
-        (last-change-written name day small, tt),
+        hash-lawful named name has (λ old. hash) files (λ old held. is),
+        (last-change-lawful named name has, tt),
       ),
     )
 
@@ -308,28 +330,31 @@ first-good number files line lines (Some found) is none = cc
 first-good number files line lines None is none = (is, none)
 
 -- what all lines do
-lines-written :
-    (number : ℕ) (files : Files) (day : ℕ) (lines : List Line)
-    → day ≤ greatest_days
+lines-lawful :
+    (day number : ℕ) (named : Named) (files : Files) (lines : List Line)
+    → ((other : List ℕ) → is_listed other named.users ≡ false
+    → is_listed other (map (λ line. line_name line.text) lines) ≡ false)
     → AllByRecursion (λ line. Lacks newline line.text) lines
     → bad_line_from number files lines ≡ None
-    → AllByRecursion IsWrittenScript (map (line_script files day) lines)
-lines-written number files day [] small apart none = tt
-lines-written number files day (line ∷ lines) small apart none =
+    → AllByRecursion (IsLawful day false false named) (map (line_script files day) lines)
+lines-lawful day number named files [] has apart none = tt
+lines-lawful day number named files (line ∷ lines) has apart none =
     let good = first-good number files line lines (line_problem files line.text) refl none
+    in let others = map (λ other. line_name other.text) lines
     in (
-      set-hash-written (line_name line.text) (line_hash line.text) files day
-          (hash-field files line.text apart.0 good.0) small,
-      lines-written (suc number) files day lines small apart.1 good.1,
+      set-hash-lawful named (line_name line.text) (line_hash line.text) files
+          (λ other unnamed. not-this other (line_name line.text) others (has other unnamed))
+          (hash-field files line.text apart.0 good.0),
+      lines-lawful day (suc number) named files lines
+          (λ other unnamed. not-others other (line_name line.text) others (has other unnamed))
+          apart.1 good.1,
     )
 
 -- chpasswd sets hashes without `:`
-pub chpasswd-written :
-    (input : List ℕ) (files : Files) (day : ℕ)
-    → day ≤ greatest_days
-    → first_some (chpasswd input files day).refusals ≡ None
-    → IsWrittenScript (chpasswd input files day).script
-chpasswd-written input files day small none =
-    order-written (map (line_script files day) (lines_of input))
-    (lines-written 1 files day (lines_of input) small (lines_of-are input).apart
-    (first-none (bad_line_from 1 files (lines_of input)) [] none).0)
+pub chpasswd-lawful : LawfulTool Chpasswd
+chpasswd-lawful request input day files settings =
+    let named = named_by Chpasswd request input files
+    in quiet-act refl refl refl (λ none. all-hold (lawful-composed named)
+    (map (line_script files day) (lines_of input))
+    (lines-lawful day 1 named files (lines_of input) (λ other unnamed. unnamed)
+    (lines_of-are input).apart (first-none (bad_line_from 1 files (lines_of input)) [] none).0))

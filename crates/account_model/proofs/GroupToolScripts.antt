@@ -1,40 +1,50 @@
--- The group tools print only records that read back, where they don't refuse: `groupadd-written`, `groupmod-written`,
--- `groupdel-written`, `gpasswd-written`. Way: the refusals show that each value can stand in a line, and then each edit
--- keeps that.
-use Rattle.std.proofs.Common.{◌≡◌, ℕ, ◌≤◌, Bool, true, false, ◌&&◌, List, [], ◌∷◌, ◌++◌, refl, subst}
-use Rattle.std.specs.Prelude.{Option, Some, None, ◌==◌, codes, is_some, if◌then◌else◌}
-use Rattle.std.specs.List.{AllByRecursion}
+-- The group tools are lawful: `groupadd-lawful`, `groupmod-lawful`, `groupdel-lawful`, `gpasswd-lawful`. Way: the refusals
+-- show that each value can stand in a line, and then each edit keeps that; each is of the group that the command names.
+use Rattle.std.proofs.Common.{◌≡◌, ℕ, ◌≤◌, Bool, true, false, ◌&&◌, List, [], ◌∷◌, ◌++◌, refl, subst, ap, ◌∙◌}
+use Rattle.std.specs.Prelude.{Option, Some, None, ◌==◌, bytes_eq, codes, is_some, if◌then◌else◌}
+use Rattle.std.proofs.lemmas.Bool.{or_parts}
+use Rattle.std.specs.List.{AllByRecursion, list_any}
 use Rattle.acct_text.specs.declared.files.Files.{Files}
 use Rattle.acct_text.proofs.NumberLaws.{some-inj}
 use Rattle.account_model.specs.declared.records.GroupRecord.{GroupRecord}
 use Rattle.account_model.specs.declared.refusal.Refusal.{Refusal}
 use Rattle.account_model.specs.declared.refusal.Refusal.TheVariants.{BadName}
-use Rattle.account_model.specs.Text.{first_some}
+use Rattle.account_model.specs.declared.tool.Tool.TheVariants.{Groupadd, Groupmod, Groupdel, Gpasswd}
+use Rattle.account_model.specs.NamedLines.{Named, named_by}
+use Rattle.account_model.specs.Text.{first_some, is_listed}
 use Rattle.account_model.specs.Names.{is_valid_name}
 use Rattle.account_model.specs.Records.{passwd_format, group_format, gshadow_format, greatest_id, is_id}
 use Rattle.account_model.specs.Format.{is_named}
 use Rattle.account_model.specs.Written.{IsField, IsNameField, IsListed, IsPasswd, IsGroup, IsGshadow}
-use Rattle.account_model.specs.Tables.{no_edits}
+use Rattle.account_model.specs.Tables.{Script, no_edits}
 use Rattle.account_model.specs.WrittenScript.{IsWrittenScript}
 use Rattle.account_model.specs.Values.{is_field, given_gid, list_value}
 use Rattle.account_model.specs.Settings.{Setting}
-use Rattle.account_model.specs.Members.{each_members, add_to_group, remove_from_group}
+use Rattle.account_model.specs.Members.{each_members, add_to_group, remove_from_group, with_name, without_name}
 use Rattle.account_model.specs.Hashes.{locked, elsewhere, set_group_hash, set_administrators}
 use Rattle.account_model.specs.Users.{group_named}
 use Rattle.account_model.specs.Request.{Request, has_option, value_of, operand}
 use Rattle.account_model.specs.Refusals.{refuse_value, bad_name, bad_value, bad_key, missing_group, missing_user, missing_users, bad_list_name}
-use Rattle.account_model.specs.Action.{Action, changes, with_option, with_flag}
+use Rattle.account_model.specs.Action.{changes, with_option, with_flag}
 use Rattle.account_model.specs.NewAccount.{kind_of, settings_for, new_hash, new_group, new_gshadow, add_group}
-use Rattle.account_model.specs.Groupadd.{is_gid_taken, other_gid, new_gid, groupadd_checks, groupadd_conflicts, groupadd_script, is_content, groupadd}
-use Rattle.account_model.specs.Groupmod.{set_gid, gid_script, rename_group, groupmod_refusals, groupmod_script, groupmod}
-use Rattle.account_model.specs.Groupdel.{remove_group, groupdel}
-use Rattle.account_model.specs.Gpasswd.{not_member, gpasswd_refusals, gpasswd_script, gpasswd}
+use Rattle.account_model.specs.Groupadd.{is_gid_taken, other_gid, new_gid, groupadd_checks, groupadd_conflicts, groupadd_script, is_content}
+use Rattle.account_model.specs.Groupmod.{set_gid, gid_script, rename_group, groupmod}
+use Rattle.account_model.specs.Groupdel.{remove_group}
+use Rattle.account_model.specs.Gpasswd.{not_member, gpasswd_refusals, gpasswd_script}
 use Rattle.account_model.proofs.DeedLaws.{first-none}
 use Rattle.account_model.proofs.HeldLaws.{passwd-holds, group-holds, gshadow-holds, each_where-written, drop_where-written}
 use Rattle.account_model.proofs.FieldFacts.{is_field-is, empty-field, valid-name}
 use Rattle.account_model.proofs.RefusalFacts.{refuse-none, value-none, good-value, text-kept, given-small, users-listed, user-listed}
 use Rattle.account_model.proofs.SettingBounds.{free-gid-small}
-use Rattle.account_model.proofs.WrittenScripts.{none-written, groups-written, order-written, some-written, option-written, flag-written, members-written, add-to-group-written, remove-from-group-written, elsewhere-field, locked-field, group-hash-written, administrators-written}
+use Rattle.account_model.proofs.WrittenScripts.{groups-written, elsewhere-field, locked-field}
+use Rattle.account_model.proofs.ComposedScripts.{all-hold, flag-holds, option-holds, some-holds}
+use Rattle.account_model.proofs.KeptIds.{KeepIds, drop-keeps, groups-keep, may-give}
+use Rattle.account_model.proofs.LawfulParts.{administrators-lawful, group-hash-lawful, members-lawful}
+use Rattle.account_model.proofs.LawfulScripts.{IsLawful, lawful, lawful-composed}
+use Rattle.account_model.proofs.LawfulTools.{LawfulTool, by-choice, quiet-act}
+use Rattle.account_model.proofs.MemberLaws.{with-listed, without-listed}
+use Rattle.account_model.proofs.NamedLaws.{where-spares}
+use Rattle.account_model.proofs.NamedParts.{each-spares, first-has, lines-spare, new-group-spares, removed-spares}
 
 -- ---- groupdel
 
@@ -44,11 +54,17 @@ remove-group-written group = groups-written _ _
     (drop_where-written group_format IsGroup group-holds (is_named group_format group), tt)
     (drop_where-written gshadow_format IsGshadow gshadow-holds (is_named gshadow_format group), tt)
 
+-- and give no GID
+pub remove-group-keeps : (group : List ℕ) → KeepIds (remove_group group)
+remove-group-keeps group =
+    groups-keep _ _ (drop-keeps (λ one. one.gid) (is_named group_format group), tt)
+
 -- groupdel adds nothing
-pub groupdel-written :
-    (request : Request) (files : Files)
-    → IsWrittenScript (groupdel request files).script
-groupdel-written request files = remove-group-written (operand request)
+pub groupdel-lawful : LawfulTool Groupdel
+groupdel-lawful request input day files settings = quiet-act refl refl refl
+    (λ none. lawful (remove-group-written (operand request))
+    (removed-spares _ (operand request) (first-has (operand request) []))
+    (λ none. remove-group-keeps (operand request)))
 
 -- ---- gpasswd
 
@@ -114,11 +130,14 @@ members-listed group request files users passes given = users-listed files users
     passes.members given)
 
 -- the edits of gpasswd
-gpasswd-script-written :
-    (group : List ℕ) (request : Request) (files : Files)
+gpasswd-script-lawful :
+    {day : ℕ} (named : Named) (group : List ℕ) (request : Request) (files : Files)
+    → ((name : List ℕ) → is_listed name named.groups ≡ false → bytes_eq name group ≡ false)
     → GpasswdPasses group request files
-    → IsWrittenScript (gpasswd_script group request files)
-gpasswd-script-written group request files passes = order-written
+    → IsLawful day false false named (gpasswd_script group request files)
+gpasswd-script-lawful named group request files has passes =
+    let composed = lawful-composed named
+    in all-hold composed
     (with_option (codes "a") request (add_to_group group)
     ∷ with_option (codes "d") request (remove_from_group group)
     ∷ with_option (codes "A") request (λ users. set_administrators group (list_value users) files)
@@ -126,27 +145,30 @@ gpasswd-script-written group request files passes = order-written
     ∷ with_flag (codes "r") request (set_group_hash group [] files)
     ∷ with_flag (codes "R") request (set_group_hash group locked files)
     ∷ []) (
-      option-written (codes "a") request (add_to_group group)
-          (λ user given. add-to-group-written group user
-          (added-listed group request files user passes given)),
+      option-holds composed (codes "a") request (add_to_group group)
+          (λ user given. members-lawful named group has (with_name user)
+          (λ names. with-listed user names
+          (added-listed group request files user passes given))),
       (
-        option-written (codes "d") request (remove_from_group group)
-            (λ user given. remove-from-group-written group user),
+        option-holds composed (codes "d") request (remove_from_group group)
+            (λ user given. members-lawful named group has (without_name user)
+            (without-listed user)),
         (
-          option-written (codes "A") request (λ users. set_administrators group
-              (list_value users) files)
-              (λ users given. administrators-written group (list_value users) files
+          option-holds composed (codes "A") request
+              (λ users. set_administrators group (list_value users) files)
+              (λ users given. administrators-lawful named group has (list_value users) files
               (administrators-listed group request files users passes given)),
           (
-            option-written (codes "M") request (λ users. each_members group
-                (λ members. list_value users))
-                (λ users given. members-written group (λ members. list_value users)
+            option-holds composed (codes "M") request
+                (λ users. each_members group (λ members. list_value users))
+                (λ users given. members-lawful named group has (λ members. list_value users)
                 (λ names all. members-listed group request files users passes given)),
             (
-              flag-written (codes "r") request _ (group-hash-written group [] files empty-field),
+              flag-holds composed (codes "r") request _
+                  (group-hash-lawful named group has [] files empty-field),
               (
-                flag-written (codes "R") request _ (group-hash-written group locked
-                    files locked-field),
+                flag-holds composed (codes "R") request _
+                    (group-hash-lawful named group has locked files locked-field),
                 tt,
               ),
             ),
@@ -156,13 +178,10 @@ gpasswd-script-written group request files passes = order-written
     )
 
 -- gpasswd adds users that are there and have no comma
-pub gpasswd-written :
-    (request : Request) (files : Files)
-    → first_some (gpasswd request files).refusals ≡ None
-    → IsWrittenScript (gpasswd request files).script
-gpasswd-written request files none =
-    gpasswd-script-written (operand request) request files
-    (gpasswd-passes (operand request) request files none)
+pub gpasswd-lawful : LawfulTool Gpasswd
+gpasswd-lawful request input day files settings = quiet-act refl refl refl
+    (λ none. gpasswd-script-lawful (named_by Gpasswd request input files) (operand request) request
+    files (first-has (operand request) []) (gpasswd-passes (operand request) request files none))
 
 -- ---- groupmod
 
@@ -222,51 +241,95 @@ rename-group-written old new named = groups-written _ _ (
   tt,
 )
 
--- the GID of `-g`
-gid-script-written :
-    (group : List ℕ) (request : Request) (files : Files)
-    → IsWrittenScript (gid_script group request files)
-gid-script-written group request files =
-    some-written (λ gid. elim (group_named group files)
-    [ None ↦ no_edits | Some old ↦ set_gid group gid old ]) (given_gid request)
-    (λ gid given. some-written (set_gid group gid) (group_named group files)
-    (λ old found. set-gid-written group gid old (given-small (codes "g") request gid given)))
+module _ (request : Request) (files : Files) where
+  -- what groupmod names
+  abbrev groupmod_names : Named
+  groupmod_names = named_by Groupmod request [] files
 
--- the edits of groupmod
-groupmod-script-written :
-    (group : List ℕ) (request : Request) (files : Files)
-    → first_some (groupmod_refusals group request files) ≡ None
-    → IsWrittenScript (groupmod_script group request files)
-groupmod-script-written group request files none =
-    let after_gid = first-none (bad_value (codes "g") is_id request) _ none
-    in let after_name = first-none (bad_value (codes "n") is_valid_name request) _ after_gid.1
-    in let after_hash = first-none (bad_value (codes "p") is_field request) _ after_name.1
-    in order-written
-    (with_option (codes "p") request (λ hash. set_group_hash group hash files)
-    ∷ gid_script group request files
-    ∷ with_option (codes "n") request (rename_group group)
-    ∷ []) (
-      option-written (codes "p") request (λ hash. set_group_hash group hash files)
-          (λ hash given. group-hash-written group hash files
-          (is_field-is hash (good-value (codes "p") is_field request hash after_hash.0 given))),
-      (
-        gid-script-written group request files,
-        (
-          option-written (codes "n") request (rename_group group)
-              (λ name given. rename-group-written group name
-              (valid-name name (good-value (codes "n") is_valid_name request name
-              after_name.0 given))),
+  -- what the group's name is
+  groupmod-has :
+      (name : List ℕ)
+      → is_listed name groupmod_names.groups ≡ false
+      → bytes_eq name (operand request) ≡ false
+  groupmod-has = first-has (operand request) []
+
+  -- the GID of `-g`, by the one that is given and the group that is found
+  gid-by :
+      {day : ℕ} (given : Option ℕ) (found : Option GroupRecord)
+      → ((gid : ℕ) → given ≡ Some gid → gid ≤ greatest_id)
+      → elim given as (λ n. List ℕ) [
+        | None ↦ []
+        | Some gid ↦ elim found as (λ r. List ℕ) [ None ↦ [] | Some old ↦ old.gid ∷ [] ]
+      ] ≡ groupmod_names.gids
+      → IsLawful day true false groupmod_names (elim given as (λ n. Script) [
+        | None ↦ no_edits
+        | Some gid ↦ elim found as (λ r. Script) [
+          | None ↦ no_edits
+          | Some old ↦ set_gid (operand request) gid old
+        ]
+      ])
+  gid-by None found small are = (lawful-composed groupmod_names).none
+  gid-by (Some gid) None small are = (lawful-composed groupmod_names).none
+  gid-by (Some gid) (Some old) small are =
+      lawful (set-gid-written (operand request) gid old (small gid refl)) (record {
+        passwd = (
+          where-spares passwd_format false _ (λ user. user.gid == old.gid)
+              (λ user. record user { gid = gid })
+              (λ r none. (or_parts (r.gid == old.gid) false
+              (ap (list_any (λ other. r.gid == other)) are
+              ∙ (or_parts (is_listed r.name groupmod_names.users)
+              (list_any (λ other. r.gid == other) groupmod_names.gids) none).1)).0),
           tt,
+        );
+        shadow = tt;
+        group = (
+          each-spares groupmod_names (operand request) groupmod-has false
+              (λ r. record r { gid = gid }),
+          tt,
+        );
+        gshadow = tt;
+        subuid = tt;
+        subgid = tt;
+      }) may-give
+
+  -- the edits of groupmod
+  groupmod-script-lawful :
+      {day : ℕ}
+      → first_some (groupmod request files).refusals ≡ None
+      → IsLawful day true false groupmod_names (groupmod request files).script
+  groupmod-script-lawful none =
+      let group = operand request
+      in let composed = lawful-composed groupmod_names
+      in let after_gid = first-none (bad_value (codes "g") is_id request) _ none
+      in let after_name = first-none (bad_value (codes "n") is_valid_name request) _ after_gid.1
+      in let after_hash = first-none (bad_value (codes "p") is_field request) _ after_name.1
+      in all-hold composed
+      (with_option (codes "p") request (λ hash. set_group_hash group hash files)
+      ∷ gid_script group request files
+      ∷ with_option (codes "n") request (rename_group group)
+      ∷ []) (
+        option-holds composed (codes "p") request (λ hash. set_group_hash group hash files)
+            (λ hash given. group-hash-lawful groupmod_names group groupmod-has hash files
+            (is_field-is hash (good-value (codes "p") is_field request hash after_hash.0 given))),
+        (
+          gid-by (given_gid request) (group_named group files) (given-small (codes "g") request)
+              refl,
+          (
+            option-holds composed (codes "n") request (rename_group group)
+                (λ name given. lawful (rename-group-written group name
+                (valid-name name (good-value (codes "n") is_valid_name request name
+                after_name.0 given)))
+                (lines-spare groupmod_names group groupmod-has (λ r. record r { name = name })
+                (λ r. record r { name = name })) may-give),
+            tt,
+          ),
         ),
-      ),
-    )
+      )
 
 -- groupmod sets tested values
-pub groupmod-written :
-    (request : Request) (files : Files)
-    → first_some (groupmod request files).refusals ≡ None
-    → IsWrittenScript (groupmod request files).script
-groupmod-written request files none = groupmod-script-written (operand request) request files none
+pub groupmod-lawful : LawfulTool Groupmod
+groupmod-lawful request input day files settings =
+    quiet-act refl refl refl (groupmod-script-lawful request files)
 
 -- ---- groupadd
 
@@ -344,44 +407,38 @@ new-gid-by request files settings gid (Some n) small e =
     && is_gid_taken request files n) (small n refl) e
 
 -- the edits of groupadd, whatever it tests behind the name and the values
-groupadd-script-written :
-    (name : List ℕ) (request : Request) (files : Files) (settings : List Setting)
+groupadd-script-lawful :
+    {day : ℕ} (request : Request) (files : Files) (settings : List Setting)
     (more : List (Option Refusal))
-    → first_some (groupadd_checks name request ++ more) ≡ None
-    → IsWrittenScript (groupadd_script name request files settings)
-groupadd-script-written name request files settings more none =
-    let after_name = first-none (bad_name name) _ none
+    → first_some (groupadd_checks (operand request) request ++ more) ≡ None
+    → IsLawful day true false (named_by Groupadd request [] files)
+    (groupadd_script (operand request) request files settings)
+groupadd-script-lawful request files settings more none =
+    let name = operand request
+    in let after_name = first-none (bad_name name) _ none
     in let after_key = first-none (bad_key request) _ after_name.1
     in let after_hash = first-none (bad_value (codes "p") is_field request) _ after_key.1
-    in some-written (λ gid. add_group name (new_hash request) gid files)
-    (new_gid request files settings)
-    (λ gid e. add-group-written name (new_hash request) gid files
+    in some-holds (lawful-composed (named_by Groupadd request [] files))
+    (λ gid. add_group name (new_hash request) gid files) (new_gid request files settings)
+    (λ gid e. lawful (add-group-written name (new_hash request) gid files
     (valid-name name (refuse-none (is_valid_name name) (BadName name) after_name.0))
     (new-hash-field request after_hash.0)
     (new-gid-by request files settings gid (given_gid request) (given-small (codes "g") request) e))
+    (new-group-spares _ name (first-has name []) (new_hash request) gid files) may-give)
 
--- what groupadd does, by whether the group may be there
-abbrev groupadd-by : List ℕ → Request → Files → List Setting → Bool → Action
-groupadd-by name request files settings content = if content
-    then changes (groupadd_checks name request) no_edits
-    else changes (groupadd_checks name request ++ groupadd_conflicts name request files settings)
+-- groupadd adds a valid name with an ID, or is content with the group that is there
+pub groupadd-lawful : LawfulTool Groupadd
+groupadd-lawful request input day files settings =
+    let name = operand request
+    in let content = is_content name request files
+    in let one = changes (groupadd_checks name request) no_edits
+    in let other = changes
+    (groupadd_checks name request ++ groupadd_conflicts name request files settings)
     (groupadd_script name request files settings)
-
--- both ways
-groupadd-by-written :
-    (name : List ℕ) (request : Request) (files : Files) (settings : List Setting) (content : Bool)
-    → first_some (groupadd-by name request files settings content).refusals ≡ None
-    → IsWrittenScript (groupadd-by name request files settings content).script
-groupadd-by-written name request files settings true none = none-written
-groupadd-by-written name request files settings false none =
-    groupadd-script-written name request files settings
-    (groupadd_conflicts name request files settings) none
-
--- groupadd adds a valid name with an ID
-pub groupadd-written :
-    (request : Request) (files : Files) (settings : List Setting)
-    → first_some (groupadd request files settings).refusals ≡ None
-    → IsWrittenScript (groupadd request files settings).script
-groupadd-written request files settings none =
-    groupadd-by-written (operand request) request files settings
-    (is_content (operand request) request files) none
+    in quiet-act (by-choice (λ action. action.status ≡ 0) content one other
+    (λ is. refl) (λ is. refl)) refl refl
+    (by-choice (λ action. first_some action.refusals ≡ None
+    → IsLawful day true false (named_by Groupadd request [] files) action.script) content one other
+    (λ is none. (lawful-composed _).none)
+    (λ is. groupadd-script-lawful request files settings
+    (groupadd_conflicts name request files settings)))

@@ -16,7 +16,8 @@ pub mod GivenFacts
 pub mod UseraddScripts
 pub mod UserdelScripts
 pub mod UsermodScripts
-pub mod ToolScripts
+pub mod ReportScripts
+pub mod ToolLaws
 pub mod ReportLaws
 pub mod SeenLemmas
 mod Commands
@@ -53,12 +54,14 @@ pub mod UntouchedLaws
 pub mod TextTimes
 pub mod UntouchedDeeds
 pub mod LineTools
-pub mod OrderScripts
-pub mod OrderTools
+pub mod ComposedScripts
+pub mod KeptIds
+pub mod LawfulScripts
+pub mod LawfulTools
+pub mod LawfulParts
 pub mod NamedLaws
 pub mod NamedParts
-pub mod NamedUsers
-pub mod NamedTools
+pub mod UsermodSpares
 pub mod NamedDeeds
 pub mod UnnamedLines
 pub mod FormatLaws

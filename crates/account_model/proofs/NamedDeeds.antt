@@ -1,26 +1,27 @@
--- Claim: a deed touches only what its command names (`deeds-touch-named`). Way: so do the tools; of a batch each line spares
--- what it doesn't name, and so what all lines don't name (`front-spares`, `back-spares`).
+-- Claim: a deed touches only what its command names (`deeds-touch-named`), and keeps the order of lines where the command
+-- doesn't sort (`deeds-keep-order`). Way: so do the tools; of a batch each line spares what it doesn't name, and so what all
+-- lines don't name (`both-spare`), and no line of it may sort.
 use Rattle.std.proofs.Common.{◌≡◌, ℕ, Bool, true, false, ◌||◌, List, [], ◌∷◌, ◌++◌, refl}
-use Rattle.std.specs.Prelude.{Result, Ok, Err, unwrap_or, ◌==◌, bytes_eq, if◌then◌else◌}
-use Rattle.std.specs.List.{list_any}
+use Rattle.std.specs.Prelude.{Option, unwrap_or, ◌==◌, bytes_eq, if◌then◌else◌}
+use Rattle.std.specs.List.{AllByRecursion, list_any}
 use Rattle.std.proofs.lemmas.Bool.{or_parts, or_from}
 use Rattle.acct_text.specs.declared.files.Files.{Files}
 use Rattle.account_model.specs.declared.records.GroupRecord.{GroupRecord}
 use Rattle.account_model.specs.declared.records.GshadowRecord.{GshadowRecord}
 use Rattle.account_model.specs.declared.records.PasswdRecord.{PasswdRecord}
-use Rattle.account_model.specs.declared.refusal.Refusal.{Refusal}
 use Rattle.account_model.specs.Text.{is_listed}
-use Rattle.account_model.specs.Tables.{Script, files_after}
+use Rattle.account_model.specs.Tables.{Script, files_after, followed_by}
 use Rattle.account_model.specs.Settings.{Setting, settings_of}
 use Rattle.account_model.specs.Request.{Request}
-use Rattle.account_model.specs.Words.{is_batch}
-use Rattle.account_model.specs.Action.{Action, Made, outcome_of}
+use Rattle.account_model.specs.Words.{is_batch, is_for_lines}
 use Rattle.account_model.specs.Change.{action_of}
 use Rattle.account_model.specs.BatchLines.{LineRequest, line_requests}
-use Rattle.account_model.specs.DeedLines.{edits_by, edits_of_deed, edits_of_lines, edits_on}
+use Rattle.account_model.specs.DeedLines.{DeedsKeepOrder, edits_of_deed, edits_of_lines, edits_on, is_sort}
 use Rattle.account_model.specs.NamedLines.{DeedsTouchNamed, Named, lists_any, named_by, named_by_both, named_by_deed, named_by_lines, names_group, names_gshadow, names_nothing, names_passwd}
-use Rattle.account_model.proofs.NamedLaws.{SparesUnnamed, both-spare, none-spare, spares-untouched}
-use Rattle.account_model.proofs.NamedTools.{tool-spares}
+use Rattle.account_model.proofs.LineTools.{lines-for-lines}
+use Rattle.account_model.proofs.NamedLaws.{NamesWithin, SparesUnnamed, spares-composed, spares-order, spares-untouched, wider-spares}
+use Rattle.account_model.proofs.ComposedScripts.{outcome-holds}
+use Rattle.account_model.proofs.ToolLaws.{meaning}
 
 -- ---- More names
 
@@ -98,94 +99,90 @@ module _ (one other : Named) where
       (lists_any r.administrators both.users) parts.1
       in (parts.0, lists.0, lists.1)
 
-  -- edits that spare what the first doesn't name spare what neither names
-  pub front-spares : (edits : Script) → SparesUnnamed one edits → SparesUnnamed both edits
-  front-spares edits spares = record {
-    passwd = λ r none. let parts = passwd-parts r none in spares.passwd r
-        (or_from (is_listed r.name one.users) (list_any (λ gid. r.gid == gid) one.gids)
+  -- both name what the first does
+  pub front-within : NamesWithin one both
+  front-within = record {
+    passwd = λ r none. let parts = passwd-parts r none in
+        or_from (is_listed r.name one.users) (list_any (λ gid. r.gid == gid) one.gids)
         (not-front (bytes_eq r.name) one.users other.users parts.0)
-        (not-front (λ gid. r.gid == gid) one.gids other.gids parts.1));
-    shadow = λ r none. spares.shadow r
-        (not-front (bytes_eq r.name) one.users other.users none);
-    group = λ r none. let parts = group-parts r none in spares.group r
-        (or_from (is_listed r.name one.groups) (lists_any r.members one.users)
+        (not-front (λ gid. r.gid == gid) one.gids other.gids parts.1);
+    shadow = λ r. not-front (bytes_eq r.name) one.users other.users;
+    group = λ r none. let parts = group-parts r none in
+        or_from (is_listed r.name one.groups) (lists_any r.members one.users)
         (not-front (bytes_eq r.name) one.groups other.groups parts.0)
-        (lists-front r.members one.users other.users parts.1));
-    gshadow = λ r none. let parts = gshadow-parts r none in spares.gshadow r
-        (or_from (is_listed r.name one.groups)
+        (lists-front r.members one.users other.users parts.1);
+    gshadow = λ r none. let parts = gshadow-parts r none in
+        or_from (is_listed r.name one.groups)
         (lists_any r.members one.users || lists_any r.administrators one.users)
         (not-front (bytes_eq r.name) one.groups other.groups parts.0)
         (or_from (lists_any r.members one.users) (lists_any r.administrators one.users)
         (lists-front r.members one.users other.users parts.1)
-        (lists-front r.administrators one.users other.users parts.2)));
-    subuid = λ r none. spares.subuid r
-        (not-front (bytes_eq r.owner) one.owners other.owners none);
-    subgid = λ r none. spares.subgid r
-        (not-front (bytes_eq r.owner) one.owners other.owners none);
+        (lists-front r.administrators one.users other.users parts.2));
+    subid = λ r. not-front (bytes_eq r.owner) one.owners other.owners;
   }
 
-  -- and so do those that spare what the second doesn't name
-  pub back-spares : (edits : Script) → SparesUnnamed other edits → SparesUnnamed both edits
-  back-spares edits spares = record {
-    passwd = λ r none. let parts = passwd-parts r none in spares.passwd r
-        (or_from (is_listed r.name other.users) (list_any (λ gid. r.gid == gid) other.gids)
+  -- and what the second does
+  pub back-within : NamesWithin other both
+  back-within = record {
+    passwd = λ r none. let parts = passwd-parts r none in
+        or_from (is_listed r.name other.users) (list_any (λ gid. r.gid == gid) other.gids)
         (not-back (bytes_eq r.name) one.users other.users parts.0)
-        (not-back (λ gid. r.gid == gid) one.gids other.gids parts.1));
-    shadow = λ r none. spares.shadow r
-        (not-back (bytes_eq r.name) one.users other.users none);
-    group = λ r none. let parts = group-parts r none in spares.group r
-        (or_from (is_listed r.name other.groups) (lists_any r.members other.users)
+        (not-back (λ gid. r.gid == gid) one.gids other.gids parts.1);
+    shadow = λ r. not-back (bytes_eq r.name) one.users other.users;
+    group = λ r none. let parts = group-parts r none in
+        or_from (is_listed r.name other.groups) (lists_any r.members other.users)
         (not-back (bytes_eq r.name) one.groups other.groups parts.0)
-        (lists-back r.members one.users other.users parts.1));
-    gshadow = λ r none. let parts = gshadow-parts r none in spares.gshadow r
-        (or_from (is_listed r.name other.groups)
+        (lists-back r.members one.users other.users parts.1);
+    gshadow = λ r none. let parts = gshadow-parts r none in
+        or_from (is_listed r.name other.groups)
         (lists_any r.members other.users || lists_any r.administrators other.users)
         (not-back (bytes_eq r.name) one.groups other.groups parts.0)
         (or_from (lists_any r.members other.users) (lists_any r.administrators other.users)
         (lists-back r.members one.users other.users parts.1)
-        (lists-back r.administrators one.users other.users parts.2)));
-    subuid = λ r none. spares.subuid r
-        (not-back (bytes_eq r.owner) one.owners other.owners none);
-    subgid = λ r none. spares.subgid r
-        (not-back (bytes_eq r.owner) one.owners other.owners none);
+        (lists-back r.administrators one.users other.users parts.2));
+    subid = λ r. not-back (bytes_eq r.owner) one.owners other.owners;
   }
 
--- ---- Commands
+  -- edits of which each part spares what one of them doesn't name spare what neither does
+  pub both-spare :
+      {sorts one_sorts other_sorts : Bool} (first second : Script)
+      → (sorts ≡ false → one_sorts ≡ false)
+      → (sorts ≡ false → other_sorts ≡ false)
+      → SparesUnnamed one_sorts one first
+      → SparesUnnamed other_sorts other second
+      → SparesUnnamed sorts both (followed_by first second)
+  both-spare first second asked other_asked spares also =
+      (spares-composed both).both first second (wider-spares first asked front-within spares)
+      (wider-spares second other_asked back-within also)
 
--- the edits of a command, by its outcome
-outcome-spares :
-    (named : Named) (action : Action) (outcome : Result Made Refusal)
-    → SparesUnnamed named action.script
-    → SparesUnnamed named (edits_by outcome action)
-outcome-spares named action (Ok made) spares = spares
-outcome-spares named action (Err refusal) spares = none-spare named
+-- ---- Commands
 
 -- the edits of a command spare what it doesn't name
 command-spares :
     (request : Request) (input : List ℕ) (day : ℕ) (files : Files) (settings : List Setting)
-    → SparesUnnamed (named_by request.tool request input files)
+    → SparesUnnamed (is_sort request) (named_by request.tool request input files)
     (edits_on request input day files settings)
 command-spares request input day files settings =
-    outcome-spares (named_by request.tool request input files)
-    (action_of request input day files settings)
-    (outcome_of (action_of request input day files settings) files)
-    (tool-spares request input day files settings request.tool)
+    outcome-holds (spares-composed (named_by request.tool request input files))
+    (action_of request input day files settings) files
+    (λ none. ((meaning request.tool request input day files settings).script none).spares)
 
--- and so do those of the commands of a batch
+-- the edits of the commands of a batch spare what these don't name, and don't sort
 lines-spare :
-    (lines : List LineRequest) (day : ℕ) (settings : List Setting) (files : Files)
-    → SparesUnnamed (named_by_lines lines day settings files)
+    {sorts : Bool} (lines : List LineRequest) (day : ℕ) (settings : List Setting) (files : Files)
+    → AllByRecursion (λ line. is_for_lines line.request.tool ≡ true) lines
+    → SparesUnnamed sorts (named_by_lines lines day settings files)
     (edits_of_lines lines day settings files)
-lines-spare [] day settings files = none-spare names_nothing
-lines-spare (line ∷ rest) day settings files =
+lines-spare [] day settings files all = (spares-composed names_nothing).none
+lines-spare (line ∷ rest) day settings files all =
     let first = edits_on line.request [] day files settings
-    in let names = named_by line.request.tool line.request [] files
     in let next = files_after first files
-    in let behind = named_by_lines rest day settings next
-    in both-spare (named_by_both names behind) first (edits_of_lines rest day settings next)
-    (front-spares names behind first (command-spares line.request [] day files settings))
-    (back-spares names behind (edits_of_lines rest day settings next)
-    (lines-spare rest day settings next))
+    in both-spare (named_by line.request.tool line.request [] files)
+    (named_by_lines rest day settings next) first (edits_of_lines rest day settings next)
+    (λ none. (meaning line.request.tool line.request [] day files settings).line all.0)
+    (λ none. none)
+    (command-spares line.request [] day files settings)
+    (lines-spare rest day settings next all.1)
 
 -- ---- Deeds
 
@@ -193,20 +190,33 @@ lines-spare (line ∷ rest) day settings files =
 pub deed-spares :
     (request : Request) (input : List ℕ) (day : ℕ) (old : Files) (settings : List Setting)
     (is : Bool)
-    → SparesUnnamed (if is
+    → SparesUnnamed (is_sort request) (if is
     then named_by_lines (line_requests input) day settings old
     else named_by request.tool request input old)
     (if is
     then edits_of_lines (line_requests input) day settings old
     else edits_on request input day old settings)
 deed-spares request input day old settings true =
-    lines-spare (line_requests input) day settings old
+    lines-spare (line_requests input) day settings old (lines-for-lines input)
 deed-spares request input day old settings false =
     command-spares request input day old settings
+
+-- a deed spares what its command doesn't name
+spares :
+    (request : Request) (input : List ℕ) (day : ℕ) (old : Files) (defs : Option (List ℕ))
+    → SparesUnnamed (is_sort request) (named_by_deed request input day old defs)
+    (edits_of_deed request input day old defs)
+spares request input day old defs =
+    deed-spares request input day old (settings_of (unwrap_or defs [])) (is_batch request.tool)
 
 -- the claim
 pub deeds-touch-named : DeedsTouchNamed
 deeds-touch-named request input day old defs =
     spares-untouched (named_by_deed request input day old defs)
-    (edits_of_deed request input day old defs)
-    (deed-spares request input day old (settings_of (unwrap_or defs [])) (is_batch request.tool))
+    (edits_of_deed request input day old defs) (spares request input day old defs)
+
+-- and the order is kept by a command that doesn't sort
+pub deeds-keep-order : DeedsKeepOrder
+deeds-keep-order request input day old defs none =
+    spares-order (named_by_deed request input day old defs)
+    (edits_of_deed request input day old defs) none (spares request input day old defs)

@@ -1,6 +1,7 @@
 -- Edits that spare the records which a command doesn't name (`SparesUnnamed`). Claim: such edits don't touch them
--- (`spares-untouched`). Then what spares them: scripts after one another (`both-spare`, `order-spares`), those of options,
--- records of a name that become others or go (`where-spares`, `drop-spares`), and lists without a name (`unlisted-stays`).
+-- (`spares-untouched`), and keep the order where nothing is to be sorted (`spares-order`). Then what spares them: scripts
+-- after one another (`spares-composed`), records of a name that become others or go (`where-spares`, `drop-spares`), and
+-- lists without a name (`unlisted-stays`).
 use Rattle.std.proofs.Common.{◌≡◌, ℕ, Bool, true, false, ◌||◌, not, List, [], ◌∷◌, refl, sym, ◌∙◌, ap}
 use Rattle.std.specs.Prelude.{⊤, Option, Some, None, cond, bytes_eq, decimal, if◌then◌else◌}
 use Rattle.std.specs.List.{AllByRecursion}
@@ -14,62 +15,94 @@ use Rattle.account_model.specs.declared.records.SubidRecord.{SubidRecord}
 use Rattle.acct_text.proofs.NumberLaws.{some-inj}
 use Rattle.account_model.specs.Text.{is_listed}
 use Rattle.account_model.specs.Format.{Format, is_named, find_named}
-use Rattle.account_model.specs.Edits.{Edit, Become, Put, becoming_touches, drop_where, each_where, touches}
+use Rattle.account_model.specs.Edits.{Edit, Become, Put, Arrange, becoming_touches, drop_where, each_where, touches}
 use Rattle.account_model.specs.Members.{without_name}
 use Rattle.account_model.specs.Records.{passwd_format, shadow_format, group_format, gshadow_format, subid_format}
 use Rattle.account_model.specs.RecordEdits.{TellsSame}
-use Rattle.account_model.specs.Tables.{Script, no_edits, followed_by, in_order}
-use Rattle.account_model.specs.Request.{Request, has_option, value_of}
-use Rattle.account_model.specs.Action.{with_flag, with_option}
+use Rattle.account_model.specs.Tables.{Script, no_edits}
 use Rattle.account_model.specs.SubidOwner.{is_owned}
+use Rattle.account_model.specs.TouchedLines.{KeepsOrder}
+use Rattle.account_model.specs.DeedLines.{KeepOrder}
 use Rattle.account_model.specs.NamedLines.{Named, TouchNamed, lists_any, names_group, names_gshadow, names_passwd, names_shadow, names_subid, owner_fields}
+use Rattle.account_model.proofs.ComposedScripts.{IsComposed}
 use Rattle.account_model.proofs.ListLaws.{all-append}
 use Rattle.account_model.proofs.RenamingLaws.{flipped}
 use Rattle.account_model.proofs.SameLaws.{passwd-tells, shadow-tells, group-tells, gshadow-tells, subid-tells}
 
 -- ---- One table
 
--- the edit leaves the record
-abbrev pub Spares : {R : Type 0} → Format R → R → Edit R → Type 0
-Spares format r (Become f) = f r ≡ r ∷ []
-Spares format r (Put s) = is_named format (format.name s) r ≡ false
-Spares format r edit = ⊤
+-- the edit leaves each record that isn't named, and sorts only where that is asked for
+abbrev pub Spares : {R : Type 0} → Format R → Bool → (R → Bool) → Edit R → Type 0
+Spares {R} format sorts names (Become f) = (r : R) → names r ≡ false → f r ≡ r ∷ []
+Spares {R} format sorts names (Put s) =
+    (r : R) → names r ≡ false → is_named format (format.name s) r ≡ false
+Spares format sorts names (Arrange key) = sorts ≡ false → ⊥
+Spares format sorts names edit = ⊤
 
 -- a record that stays is touched where later edits touch it
 same-by : (same later : Bool) → same ≡ true → later ≡ false → (not same || later) ≡ false
 same-by true later is untouched = untouched
 same-by false later is untouched = absurd (cc is)
 
--- edits that leave a record don't touch it
-spared :
-    {R : Type 0} (format : Format R)
-    → TellsSame format
-    → (edits : List (Edit R)) (r : R)
-    → AllByRecursion (Spares format r) edits
-    → touches format edits r ≡ false
-spared format tells [] r all = refl
-spared {R} format tells (Become f ∷ edits) r all =
-    ap (λ (news : List R). becoming_touches format r news (touches format edits)) all.0
-    ∙ same-by (format.same r r) (touches format edits r) ((tells r r).1 refl)
-    (spared format tells edits r all.1)
-spared format tells (Put s ∷ edits) r all =
-    or_from (is_named format (format.name s) r) (touches format edits r) all.0
-    (spared format tells edits r all.1)
-spared format tells (edit ∷ edits) r all = spared format tells edits r all.1
+module _ {R : Type 0} (format : Format R) (sorts : Bool) (names : R → Bool) where
+  -- edits that leave a record don't touch it
+  spared :
+      TellsSame format
+      → (edits : List (Edit R)) (r : R)
+      → AllByRecursion (Spares format sorts names) edits
+      → names r ≡ false
+      → touches format edits r ≡ false
+  spared tells [] r all none = refl
+  spared tells (Become f ∷ edits) r all none =
+      ap (λ (news : List R). becoming_touches format r news (touches format edits)) (all.0 r none)
+      ∙ same-by (format.same r r) (touches format edits r) ((tells r r).1 refl)
+      (spared tells edits r all.1 none)
+  spared tells (Put s ∷ edits) r all none =
+      or_from (is_named format (format.name s) r) (touches format edits r) (all.0 r none)
+      (spared tells edits r all.1 none)
+  spared tells (edit ∷ edits) r all none = spared tells edits r all.1 none
 
--- where the records that pass a test become others, one that fails it stays
-pub where-spares :
-    {R : Type 0} (format : Format R) (test : R → Bool) (f : R → R) (r : R)
-    → test r ≡ false
-    → Spares format r (each_where test f)
-where-spares {R} format test f r fails = ap (λ passes. (if passes then f r else r) ∷ []) fails
+  -- where nothing is to be sorted, they keep the order
+  ordered :
+      (edits : List (Edit R))
+      → sorts ≡ false
+      → AllByRecursion (Spares format sorts names) edits
+      → AllByRecursion KeepsOrder edits
+  ordered [] asked all = tt
+  ordered (Arrange key ∷ edits) asked all = absurd (all.0 asked)
+  ordered (edit ∷ edits) asked all = (tt, ordered edits asked all.1)
 
--- and where they go
-pub drop-spares :
-    {R : Type 0} (format : Format R) (test : R → Bool) (r : R)
-    → test r ≡ false
-    → Spares format r (drop_where test)
-drop-spares {R} format test r fails = ap (λ passes. if passes then [] else r ∷ []) fails
+  -- they leave what isn't named where more is, and more may be sorted
+  wider :
+      (more : Bool) (others : R → Bool)
+      → (more ≡ false → sorts ≡ false)
+      → ((r : R) → others r ≡ false → names r ≡ false)
+      → (edits : List (Edit R))
+      → AllByRecursion (Spares format sorts names) edits
+      → AllByRecursion (Spares format more others) edits
+  wider more others asked fewer [] all = tt
+  wider more others asked fewer (Become f ∷ edits) all =
+      ((λ r none. all.0 r (fewer r none)), wider more others asked fewer edits all.1)
+  wider more others asked fewer (Put s ∷ edits) all =
+      ((λ r none. all.0 r (fewer r none)), wider more others asked fewer edits all.1)
+  wider more others asked fewer (Arrange key ∷ edits) all =
+      ((λ none. all.0 (asked none)), wider more others asked fewer edits all.1)
+  wider more others asked fewer (edit ∷ edits) all =
+      (tt, wider more others asked fewer edits all.1)
+
+  -- where the records that pass a test become others, those that fail it stay
+  pub where-spares :
+      (test : R → Bool) (f : R → R)
+      → ((r : R) → names r ≡ false → test r ≡ false)
+      → Spares format sorts names (each_where test f)
+  where-spares test f fails r none = ap (λ passes. (if passes then f r else r) ∷ []) (fails r none)
+
+  -- and where they go
+  pub drop-spares :
+      (test : R → Bool)
+      → ((r : R) → names r ≡ false → test r ≡ false)
+      → Spares format sorts names (drop_where test)
+  drop-spares test fails r none = ap (λ passes. if passes then [] else r ∷ []) (fails r none)
 
 -- ---- Names
 
@@ -142,104 +175,122 @@ found-named format name (s ∷ rest) r found =
 
 -- ---- All tables
 
--- each edit leaves each record that isn't named
-pub record SparesUnnamed (named : Named) (script : Script) : Type 0 where
-  pub passwd : (r : PasswdRecord) → names_passwd named r ≡ false
-      → AllByRecursion (Spares passwd_format r) script.passwd
-  pub shadow : (r : ShadowRecord) → names_shadow named r ≡ false
-      → AllByRecursion (Spares shadow_format r) script.shadow
-  pub group : (r : GroupRecord) → names_group named r ≡ false
-      → AllByRecursion (Spares group_format r) script.group
-  pub gshadow : (r : GshadowRecord) → names_gshadow named r ≡ false
-      → AllByRecursion (Spares gshadow_format r) script.gshadow
-  pub subuid : (r : SubidRecord) → names_subid named r ≡ false
-      → AllByRecursion (Spares subid_format r) script.subuid
-  pub subgid : (r : SubidRecord) → names_subid named r ≡ false
-      → AllByRecursion (Spares subid_format r) script.subgid
+-- each edit leaves each record that isn't named, and sorts only where that is asked for
+pub record SparesUnnamed (sorts : Bool) (named : Named) (script : Script) : Type 0 where
+  pub passwd : AllByRecursion (Spares passwd_format sorts (names_passwd named)) script.passwd
+  pub shadow : AllByRecursion (Spares shadow_format sorts (names_shadow named)) script.shadow
+  pub group : AllByRecursion (Spares group_format sorts (names_group named)) script.group
+  pub gshadow : AllByRecursion (Spares gshadow_format sorts (names_gshadow named)) script.gshadow
+  pub subuid : AllByRecursion (Spares subid_format sorts (names_subid named)) script.subuid
+  pub subgid : AllByRecursion (Spares subid_format sorts (names_subid named)) script.subgid
 
 -- so no such record is touched
 pub spares-untouched :
-    (named : Named) (script : Script) → SparesUnnamed named script → TouchNamed named script
-spares-untouched named script spares = record {
-  passwd = λ r none. spared passwd_format passwd-tells script.passwd r (spares.passwd r none);
-  shadow = λ r none. spared shadow_format shadow-tells script.shadow r (spares.shadow r none);
-  group = λ r none. spared group_format group-tells script.group r (spares.group r none);
-  gshadow = λ r none. spared gshadow_format gshadow-tells script.gshadow r (spares.gshadow r none);
-  subuid = λ r none. spared subid_format subid-tells script.subuid r (spares.subuid r none);
-  subgid = λ r none. spared subid_format subid-tells script.subgid r (spares.subgid r none);
+    {sorts : Bool} (named : Named) (script : Script)
+    → SparesUnnamed sorts named script
+    → TouchNamed named script
+spares-untouched {sorts = sorts} named script spares = record {
+  passwd = λ r. spared passwd_format sorts (names_passwd named) passwd-tells script.passwd r
+      spares.passwd;
+  shadow = λ r. spared shadow_format sorts (names_shadow named) shadow-tells script.shadow r
+      spares.shadow;
+  group = λ r. spared group_format sorts (names_group named) group-tells script.group r
+      spares.group;
+  gshadow = λ r. spared gshadow_format sorts (names_gshadow named) gshadow-tells script.gshadow r
+      spares.gshadow;
+  subuid = λ r. spared subid_format sorts (names_subid named) subid-tells script.subuid r
+      spares.subuid;
+  subgid = λ r. spared subid_format sorts (names_subid named) subid-tells script.subgid r
+      spares.subgid;
 }
 
-module _ (named : Named) where
-  -- no edits
-  pub none-spare : SparesUnnamed named no_edits
-  none-spare = record {
-    passwd = λ r none. tt;
-    shadow = λ r none. tt;
-    group = λ r none. tt;
-    gshadow = λ r none. tt;
-    subuid = λ r none. tt;
-    subgid = λ r none. tt;
-  }
+-- and where nothing is to be sorted, the order is kept
+pub spares-order :
+    {sorts : Bool} (named : Named) (script : Script)
+    → sorts ≡ false
+    → SparesUnnamed sorts named script
+    → KeepOrder script
+spares-order {sorts = sorts} named script none spares = record {
+  passwd = ordered passwd_format sorts (names_passwd named) script.passwd none spares.passwd;
+  shadow = ordered shadow_format sorts (names_shadow named) script.shadow none spares.shadow;
+  group = ordered group_format sorts (names_group named) script.group none spares.group;
+  gshadow = ordered gshadow_format sorts (names_gshadow named) script.gshadow none spares.gshadow;
+  subuid = ordered subid_format sorts (names_subid named) script.subuid none spares.subuid;
+  subgid = ordered subid_format sorts (names_subid named) script.subgid none spares.subgid;
+}
 
-  -- two scripts
-  pub both-spare :
-      (first second : Script)
-      → SparesUnnamed named first
-      → SparesUnnamed named second
-      → SparesUnnamed named (followed_by first second)
-  both-spare first second one other = record {
-    passwd = λ r none. all-append _ first.passwd second.passwd (one.passwd r none)
-        (other.passwd r none);
-    shadow = λ r none. all-append _ first.shadow second.shadow (one.shadow r none)
-        (other.shadow r none);
-    group = λ r none. all-append _ first.group second.group (one.group r none)
-        (other.group r none);
-    gshadow = λ r none. all-append _ first.gshadow second.gshadow (one.gshadow r none)
-        (other.gshadow r none);
-    subuid = λ r none. all-append _ first.subuid second.subuid (one.subuid r none)
-        (other.subuid r none);
-    subgid = λ r none. all-append _ first.subgid second.subgid (one.subgid r none)
-        (other.subgid r none);
-  }
+-- the one names only what the other does
+pub record NamesWithin (one other : Named) : Type 0 where
+  pub passwd : (r : PasswdRecord) → names_passwd other r ≡ false → names_passwd one r ≡ false
+  pub shadow : (r : ShadowRecord) → names_shadow other r ≡ false → names_shadow one r ≡ false
+  pub group : (r : GroupRecord) → names_group other r ≡ false → names_group one r ≡ false
+  pub gshadow : (r : GshadowRecord) → names_gshadow other r ≡ false → names_gshadow one r ≡ false
+  pub subid : (r : SubidRecord) → names_subid other r ≡ false → names_subid one r ≡ false
 
-  -- scripts in their order
-  pub order-spares :
-      (scripts : List Script)
-      → AllByRecursion (SparesUnnamed named) scripts
-      → SparesUnnamed named (in_order scripts)
-  order-spares [] all = none-spare
-  order-spares (script ∷ rest) all =
-      both-spare script (in_order rest) all.0 (order-spares rest all.1)
+-- what spares what the one doesn't name spares what the other doesn't, where that may sort too
+pub wider-spares :
+    {sorts more : Bool} {one other : Named} (script : Script)
+    → (more ≡ false → sorts ≡ false)
+    → NamesWithin one other
+    → SparesUnnamed sorts one script
+    → SparesUnnamed more other script
+wider-spares {sorts} {more} {one} {other} script asked within spares = record {
+  passwd = wider passwd_format sorts (names_passwd one) more (names_passwd other) asked
+      within.passwd script.passwd spares.passwd;
+  shadow = wider shadow_format sorts (names_shadow one) more (names_shadow other) asked
+      within.shadow script.shadow spares.shadow;
+  group = wider group_format sorts (names_group one) more (names_group other) asked within.group
+      script.group spares.group;
+  gshadow = wider gshadow_format sorts (names_gshadow one) more (names_gshadow other) asked
+      within.gshadow script.gshadow spares.gshadow;
+  subuid = wider subid_format sorts (names_subid one) more (names_subid other) asked within.subid
+      script.subuid spares.subuid;
+  subgid = wider subid_format sorts (names_subid one) more (names_subid other) asked within.subid
+      script.subgid spares.subgid;
+}
 
-  -- the script of a value that may be there
-  pub some-spare :
-      {V : Type 0} (edits : V → Script) (given : Option V)
-      → ((value : V) → given ≡ Some value → SparesUnnamed named (edits value))
-      → SparesUnnamed named (elim given [ None ↦ no_edits | Some value ↦ edits value ])
-  some-spare edits None each = none-spare
-  some-spare edits (Some value) each = each value refl
+-- it holds of no edits, and of two scripts
+pub spares-composed : {sorts : Bool} (named : Named) → IsComposed (SparesUnnamed sorts named)
+spares-composed named = record {
+  none = record { passwd = tt; shadow = tt; group = tt; gshadow = tt; subuid = tt; subgid = tt };
+  both = λ first second one other. record {
+    passwd = all-append _ first.passwd second.passwd one.passwd other.passwd;
+    shadow = all-append _ first.shadow second.shadow one.shadow other.shadow;
+    group = all-append _ first.group second.group one.group other.group;
+    gshadow = all-append _ first.gshadow second.gshadow one.gshadow other.gshadow;
+    subuid = all-append _ first.subuid second.subuid one.subuid other.subuid;
+    subgid = all-append _ first.subgid second.subgid one.subgid other.subgid;
+  };
+}
 
-  -- the script of an option
-  pub option-spares :
-      (letter : List ℕ) (request : Request) (edits : List ℕ → Script)
-      → ((value : List ℕ) → SparesUnnamed named (edits value))
-      → SparesUnnamed named (with_option letter request edits)
-  option-spares letter request edits each =
-      some-spare edits (value_of letter request) (λ value is. each value)
+-- edits of users alone
+pub users-spare :
+    {sorts : Bool} {named : Named} (passwd : List (Edit PasswdRecord))
+    (shadow : List (Edit ShadowRecord))
+    → AllByRecursion (Spares passwd_format sorts (names_passwd named)) passwd
+    → AllByRecursion (Spares shadow_format sorts (names_shadow named)) shadow
+    → SparesUnnamed sorts named (record no_edits { passwd = passwd; shadow = shadow })
+users-spare passwd shadow one other = record {
+  passwd = one;
+  shadow = other;
+  group = tt;
+  gshadow = tt;
+  subuid = tt;
+  subgid = tt;
+}
 
-  -- one of two scripts
-  pub either-spare :
-      (test : Bool) (one other : Script)
-      → SparesUnnamed named one
-      → SparesUnnamed named other
-      → SparesUnnamed named (if test then one else other)
-  either-spare true one other is also = is
-  either-spare false one other is also = also
-
-  -- the script of a flag
-  pub flag-spares :
-      (letter : List ℕ) (request : Request) (script : Script)
-      → SparesUnnamed named script
-      → SparesUnnamed named (with_flag letter request script)
-  flag-spares letter request script is =
-      either-spare (has_option letter request) script no_edits is none-spare
+-- edits of groups alone
+pub groups-spare :
+    {sorts : Bool} {named : Named} (group : List (Edit GroupRecord))
+    (gshadow : List (Edit GshadowRecord))
+    → AllByRecursion (Spares group_format sorts (names_group named)) group
+    → AllByRecursion (Spares gshadow_format sorts (names_gshadow named)) gshadow
+    → SparesUnnamed sorts named (record no_edits { group = group; gshadow = gshadow })
+groups-spare group gshadow one other = record {
+  passwd = tt;
+  shadow = tt;
+  group = one;
+  gshadow = other;
+  subuid = tt;
+  subgid = tt;
+}

@@ -1,8 +1,7 @@
--- The parts of scripts that spare what a command doesn't name: the lines of a user that it names (`demand-spares`,
--- `hash-spares`), and those of a group (`members-spare`, `group-hash-spares` and so on).
-use Rattle.std.proofs.Common.{◌≡◌, ℕ, false, ◌||◌, List, [], ◌∷◌, map, ◌∙◌, ap}
-use Rattle.std.specs.Prelude.{is_some, ◌==◌, bytes_eq}
-use Rattle.std.specs.List.{AllByRecursion, list_any}
+-- The parts of scripts that spare what a command doesn't name: lines of a user that it names, and those of a group.
+use Rattle.std.proofs.Common.{◌≡◌, ℕ, Bool, false, ◌||◌, List, [], ◌∷◌, ◌∙◌, ap}
+use Rattle.std.specs.Prelude.{◌==◌, bytes_eq}
+use Rattle.std.specs.List.{list_any}
 use Rattle.std.proofs.lemmas.Bool.{or_parts}
 use Rattle.acct_text.specs.declared.files.Files.{Files}
 use Rattle.account_model.specs.declared.records.PasswdRecord.{PasswdRecord}
@@ -12,15 +11,14 @@ use Rattle.account_model.specs.declared.records.GshadowRecord.{GshadowRecord}
 use Rattle.account_model.specs.Text.{is_listed}
 use Rattle.account_model.specs.Format.{is_named}
 use Rattle.account_model.specs.Records.{passwd_format, shadow_format, group_format, gshadow_format}
-use Rattle.account_model.specs.Tables.{no_edits, passwd_records, group_records}
-use Rattle.account_model.specs.Users.{find_user, group_named}
-use Rattle.account_model.specs.Hashes.{demand_gshadow, demand_shadow, each_user_hash, elsewhere, lacks_gshadow, lacks_shadow, make_gshadow, make_shadow, set_administrators, set_group_hash, write_administrators, write_group_hash}
-use Rattle.account_model.specs.Members.{add_to_group, each_members, with_name}
+use Rattle.account_model.specs.Tables.{no_edits}
+use Rattle.account_model.specs.Hashes.{elsewhere, make_gshadow, make_shadow}
+use Rattle.account_model.specs.Members.{each_members}
 use Rattle.account_model.specs.NewAccount.{add_group}
 use Rattle.account_model.specs.Groupdel.{remove_group}
 use Rattle.account_model.specs.Edits.{each_where}
 use Rattle.account_model.specs.NamedLines.{Named, lists_any, names_group, names_gshadow, names_passwd}
-use Rattle.account_model.proofs.NamedLaws.{SparesUnnamed, both-spare, drop-spares, either-spare, found-named, none-spare, not-others, not-this, some-spare, where-spares}
+use Rattle.account_model.proofs.NamedLaws.{Spares, SparesUnnamed, drop-spares, groups-spare, not-this, users-spare, where-spares}
 
 -- ---- Users
 
@@ -28,71 +26,30 @@ use Rattle.account_model.proofs.NamedLaws.{SparesUnnamed, both-spare, drop-spare
 module _ (named : Named) (user : List ℕ)
     (has : (name : List ℕ) → is_listed name named.users ≡ false → bytes_eq name user ≡ false) where
   -- a line of passwd that isn't named is another user's
-  other-user : (r : PasswdRecord) → names_passwd named r ≡ false
+  pub other-user : (r : PasswdRecord) → names_passwd named r ≡ false
       → is_named passwd_format user r ≡ false
   other-user r none = has r.name (or_parts (is_listed r.name named.users)
       (list_any (λ gid. r.gid == gid) named.gids) none).0
 
-  -- the user's lines of shadow become others
-  pub shadow-spares :
-      (f : ShadowRecord → ShadowRecord)
-      → SparesUnnamed named (record no_edits {
-        shadow = each_where (is_named shadow_format user) f ∷ [];
-      })
-  shadow-spares f = record {
-    passwd = λ r none. tt;
-    shadow = λ r none. (
-      where-spares shadow_format (is_named shadow_format user) f r
-          (has r.name none),
+  module _ {sorts : Bool} where
+    -- the user's lines of shadow become others
+    pub shadow-spares :
+        (f : ShadowRecord → ShadowRecord)
+        → SparesUnnamed sorts named (record no_edits {
+          shadow = each_where (is_named shadow_format user) f ∷ [];
+        })
+    shadow-spares f = users-spare [] _ tt
+        (where-spares shadow_format sorts _ (is_named shadow_format user) f (λ r. has r.name), tt)
+
+    -- the line of shadow that is made
+    pub make-spares :
+        (found : PasswdRecord) → found.name ≡ user → SparesUnnamed sorts named (make_shadow found)
+    make-spares found is = users-spare _ _ (
+      where-spares passwd_format sorts _ (is_named passwd_format found.name)
+          (λ one. record one { password = elsewhere })
+          (λ r none. ap (λ name. bytes_eq r.name name) is ∙ other-user r none),
       tt,
-    );
-    group = λ r none. tt;
-    gshadow = λ r none. tt;
-    subuid = λ r none. tt;
-    subgid = λ r none. tt;
-  }
-
-  -- the line of shadow that is made
-  make-spares : (found : PasswdRecord) → found.name ≡ user → SparesUnnamed named (make_shadow found)
-  make-spares found is = record {
-    passwd = λ r none. (
-      where-spares passwd_format (is_named passwd_format found.name)
-          (λ one. record one { password = elsewhere }) r
-          (ap (λ name. bytes_eq r.name name) is ∙ other-user r none),
-      tt,
-    );
-    shadow = λ r none. (tt, tt);
-    group = λ r none. tt;
-    gshadow = λ r none. tt;
-    subuid = λ r none. tt;
-    subgid = λ r none. tt;
-  }
-
-  -- the line of shadow on demand
-  pub demand-spares : (files : Files) → SparesUnnamed named (demand_shadow user files)
-  demand-spares files = either-spare named (lacks_shadow user files) _ no_edits
-      (some-spare named make_shadow (find_user user files)
-      (λ found is. make-spares found
-      (found-named passwd_format user (passwd_records files) found is)))
-      (none-spare named)
-
-  -- the hash
-  pub hash-spares :
-      (f : List ℕ → List ℕ) (files : Files) → SparesUnnamed named (each_user_hash user f files)
-  hash-spares f files = either-spare named (is_some files.shadow) _ _
-      (shadow-spares (λ r. record r { hash = f r.hash }))
-      (record {
-        passwd = λ r none. (
-          where-spares passwd_format (is_named passwd_format user)
-              (λ one. record one { password = f one.password }) r (other-user r none),
-          tt,
-        );
-        shadow = λ r none. tt;
-        group = λ r none. tt;
-        gshadow = λ r none. tt;
-        subuid = λ r none. tt;
-        subgid = λ r none. tt;
-      })
+    ) (tt, tt)
 
 -- ---- Groups
 
@@ -113,140 +70,73 @@ module _ (named : Named) (group : List ℕ)
         (lists_any r.members named.users || lists_any r.administrators named.users) none).0
 
     -- the group's lines become others
-    pub group-spares :
-        (f : GroupRecord → GroupRecord)
-        → SparesUnnamed named (record no_edits {
-          group = each_where (is_named group_format group) f ∷ [];
-        })
-    group-spares f = record {
-      passwd = λ r none. tt;
-      shadow = λ r none. tt;
-      group = λ r none. (
-        where-spares group_format (is_named group_format group) f r
-            (other-group r none),
-        tt,
-      );
-      gshadow = λ r none. tt;
-      subuid = λ r none. tt;
-      subgid = λ r none. tt;
-    }
+    pub each-spares :
+        (sorts : Bool) (f : GroupRecord → GroupRecord)
+        → Spares group_format sorts (names_group named) (each_where (is_named group_format group) f)
+    each-spares sorts f =
+        where-spares group_format sorts _ (is_named group_format group) f other-group
 
     -- those of gshadow
-    pub gshadow-spares :
-        (f : GshadowRecord → GshadowRecord)
-        → SparesUnnamed named (record no_edits {
-          gshadow = each_where (is_named gshadow_format group) f ∷ [];
-        })
-    gshadow-spares f = record {
-      passwd = λ r none. tt;
-      shadow = λ r none. tt;
-      group = λ r none. tt;
-      gshadow = λ r none. (
-        where-spares gshadow_format (is_named gshadow_format group) f r
-            (other-gshadow r none),
+    each-gshadow-spares :
+        (sorts : Bool) (f : GshadowRecord → GshadowRecord)
+        → Spares gshadow_format sorts (names_gshadow named)
+        (each_where (is_named gshadow_format group) f)
+    each-gshadow-spares sorts f =
+        where-spares gshadow_format sorts _ (is_named gshadow_format group) f other-gshadow
+
+    module _ {sorts : Bool} where
+      -- a script of the group's lines in group
+      pub group-spares :
+          (f : GroupRecord → GroupRecord)
+          → SparesUnnamed sorts named (record no_edits {
+            group = each_where (is_named group_format group) f ∷ [];
+          })
+      group-spares f = groups-spare _ [] (each-spares sorts f, tt) tt
+
+      -- in gshadow
+      pub gshadow-spares :
+          (f : GshadowRecord → GshadowRecord)
+          → SparesUnnamed sorts named (record no_edits {
+            gshadow = each_where (is_named gshadow_format group) f ∷ [];
+          })
+      gshadow-spares f = groups-spare [] _ tt (each-gshadow-spares sorts f, tt)
+
+      -- in both
+      pub lines-spare :
+          (f : GroupRecord → GroupRecord) (g : GshadowRecord → GshadowRecord)
+          → SparesUnnamed sorts named (record no_edits {
+            group = each_where (is_named group_format group) f ∷ [];
+            gshadow = each_where (is_named gshadow_format group) g ∷ [];
+          })
+      lines-spare f g = groups-spare _ _ (each-spares sorts f, tt) (each-gshadow-spares sorts g, tt)
+
+      -- the members
+      pub members-spare :
+          (f : List (List ℕ) → List (List ℕ)) → SparesUnnamed sorts named (each_members group f)
+      members-spare f = lines-spare (λ r. record r { members = f r.members })
+          (λ r. record r { members = f r.members })
+
+      -- the lines of a new group
+      pub new-group-spares :
+          (hash : List ℕ) (gid : ℕ) (files : Files)
+          → SparesUnnamed sorts named (add_group group hash gid files)
+      new-group-spares hash gid files = groups-spare _ _ (tt, tt) (other-gshadow, tt)
+
+      -- the lines of a group go
+      pub removed-spares : SparesUnnamed sorts named (remove_group group)
+      removed-spares = groups-spare _ _
+          (drop-spares group_format sorts _ (is_named group_format group) other-group, tt)
+          (drop-spares gshadow_format sorts _ (is_named gshadow_format group) other-gshadow, tt)
+
+      -- the line of gshadow that is made
+      pub make-group-spares :
+          (found : GroupRecord) → found.name ≡ group → SparesUnnamed sorts named (make_gshadow found)
+      make-group-spares found is = groups-spare _ _ (
+        where-spares group_format sorts _ (is_named group_format found.name)
+            (λ one. record one { password = elsewhere })
+            (λ r none. ap (λ name. bytes_eq r.name name) is ∙ other-group r none),
         tt,
-      );
-      subuid = λ r none. tt;
-      subgid = λ r none. tt;
-    }
-
-    -- both
-    pub lines-spare :
-        (f : GroupRecord → GroupRecord) (g : GshadowRecord → GshadowRecord)
-        → SparesUnnamed named (record no_edits {
-          group = each_where (is_named group_format group) f ∷ [];
-          gshadow = each_where (is_named gshadow_format group) g ∷ [];
-        })
-    lines-spare f g = record {
-      passwd = λ r none. tt;
-      shadow = λ r none. tt;
-      group = (group-spares f).group;
-      gshadow = (gshadow-spares g).gshadow;
-      subuid = λ r none. tt;
-      subgid = λ r none. tt;
-    }
-
-    -- the members
-    pub members-spare :
-        (f : List (List ℕ) → List (List ℕ)) → SparesUnnamed named (each_members group f)
-    members-spare f = lines-spare (λ r. record r { members = f r.members })
-        (λ r. record r { members = f r.members })
-
-    -- the lines of a new group
-    pub new-group-spares :
-        (hash : List ℕ) (gid : ℕ) (files : Files)
-        → SparesUnnamed named (add_group group hash gid files)
-    new-group-spares hash gid files = record {
-      passwd = λ r none. tt;
-      shadow = λ r none. tt;
-      group = λ r none. (tt, tt);
-      gshadow = λ r none. (other-gshadow r none, tt);
-      subuid = λ r none. tt;
-      subgid = λ r none. tt;
-    }
-
-    -- the lines of a group go
-    pub removed-spares : SparesUnnamed named (remove_group group)
-    removed-spares = record {
-      passwd = λ r none. tt;
-      shadow = λ r none. tt;
-      group = λ r none. (
-        drop-spares group_format (is_named group_format group) r
-            (other-group r none),
-        tt,
-      );
-      gshadow = λ r none. (
-        drop-spares gshadow_format (is_named gshadow_format group) r
-            (other-gshadow r none),
-        tt,
-      );
-      subuid = λ r none. tt;
-      subgid = λ r none. tt;
-    }
-
-    -- the line of gshadow that is made
-    make-group-spares :
-        (found : GroupRecord) → found.name ≡ group → SparesUnnamed named (make_gshadow found)
-    make-group-spares found is = record {
-      passwd = λ r none. tt;
-      shadow = λ r none. tt;
-      group = λ r none. (
-        where-spares group_format (is_named group_format found.name)
-            (λ one. record one { password = elsewhere }) r
-            (ap (λ name. bytes_eq r.name name) is ∙ other-group r none),
-        tt,
-      );
-      gshadow = λ r none. (tt, tt);
-      subuid = λ r none. tt;
-      subgid = λ r none. tt;
-    }
-
-    -- the line of gshadow on demand
-    demand-group-spares : (files : Files) → SparesUnnamed named (demand_gshadow group files)
-    demand-group-spares files = either-spare named (lacks_gshadow group files) _ no_edits
-        (some-spare named make_gshadow (group_named group files)
-        (λ found is. make-group-spares found
-        (found-named group_format group (group_records files) found is)))
-        (none-spare named)
-
-    -- the hash of a group
-    pub group-hash-spares :
-        (hash : List ℕ) (files : Files) → SparesUnnamed named (set_group_hash group hash files)
-    group-hash-spares hash files =
-        both-spare named (demand_gshadow group files) (write_group_hash group hash files)
-        (demand-group-spares files)
-        (either-spare named (is_some files.gshadow) _ _
-        (gshadow-spares (λ r. record r { password = hash }))
-        (group-spares (λ r. record r { password = hash })))
-
-    -- the administrators
-    pub administrators-spare :
-        (administrators : List (List ℕ)) (files : Files)
-        → SparesUnnamed named (set_administrators group administrators files)
-    administrators-spare administrators files =
-        both-spare named (demand_gshadow group files) (write_administrators group administrators)
-        (demand-group-spares files)
-        (gshadow-spares (λ r. record r { administrators = administrators }))
+      ) (tt, tt)
 
 -- the first of the names is one of them
 pub first-has :
@@ -254,18 +144,3 @@ pub first-has :
     → is_listed name (this ∷ rest) ≡ false
     → bytes_eq name this ≡ false
 first-has this rest name none = not-this name this rest none
-
--- a user of these groups joins them
-pub joined-spare :
-    (named : Named) (user : List ℕ) (groups : List GroupRecord)
-    → ((name : List ℕ) → is_listed name named.groups ≡ false
-    → is_listed name (map (λ group. group.name) groups) ≡ false)
-    → AllByRecursion (SparesUnnamed named) (map (λ group. add_to_group group.name user) groups)
-joined-spare named user [] has = tt
-joined-spare named user (group ∷ groups) has = (
-  members-spare named group.name
-      (λ name none. not-this name group.name (map (λ other. other.name) groups) (has name none))
-      (with_name user),
-  joined-spare named user groups
-      (λ name none. not-others name group.name (map (λ other. other.name) groups) (has name none)),
-)

@@ -31,7 +31,7 @@ use Rattle.account_model.proofs.ListLaws.{all-append}
 use Rattle.account_model.proofs.NoEdits.{files-stay}
 use Rattle.account_model.proofs.SameLaws.{passwd-tells, shadow-tells, group-tells, gshadow-tells, subid-tells}
 use Rattle.account_model.proofs.TextTimes.{arranged-times, arranged-untouched, within-times}
-use Rattle.account_model.proofs.ToolScripts.{tools-written}
+use Rattle.account_model.proofs.ToolLaws.{tools-written}
 use Rattle.account_model.proofs.UntouchedLaws.{filter-within, step-within, untouched-stay}
 
 -- ---- The lines of a table

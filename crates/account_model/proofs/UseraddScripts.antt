@@ -1,5 +1,5 @@
--- useradd prints only records that read back, where it doesn't refuse: `useradd-written`. Way: the
--- refusals show that each value can stand in a line, and then each edit keeps that.
+-- useradd is lawful (`useradd-lawful`). Way: the refusals show that each value can stand in a line,
+-- and then each edit keeps that; each is of the user and the groups that the command names.
 use Rattle.std.proofs.Common.{◌≡◌, zero, suc, ℕ, ◌<◌, ◌≤◌, Bool, true, false, ◌&&◌, not, List, [], ◌∷◌, ◌++◌, map, refl, subst, arith, lit≤}
 use Rattle.std.specs.Prelude.{Option, Some, None, ◌==◌, codes, is_some, option_map, option_and_then, unwrap_or, if◌then◌else◌}
 use Rattle.std.specs.List.{AllByRecursion, list_any}
@@ -13,19 +13,18 @@ use Rattle.account_model.specs.declared.settings.Key.TheVariants.{PassMinDays, P
 use Rattle.account_model.specs.declared.refusal.Refusal.{Refusal}
 use Rattle.account_model.specs.declared.refusal.Refusal.TheVariants.{BadName}
 use Rattle.acct_text.specs.Bytes.{newline, colon}
-use Rattle.account_model.specs.Text.{first_some, has_byte}
+use Rattle.account_model.specs.Text.{first_some, has_byte, is_listed}
 use Rattle.account_model.specs.Names.{is_valid_name}
 use Rattle.account_model.specs.Records.{subid_format, greatest_id, greatest_days}
 use Rattle.account_model.specs.RecordEdits.{IsWrittenEdit}
 use Rattle.account_model.specs.Edits.Edit.{Add, Put}
 use Rattle.account_model.specs.Written.{IsField, IsListed, IsDaysNumber, IsPasswd, IsShadow, IsSubid}
 use Rattle.account_model.specs.Tables.{no_edits}
-use Rattle.account_model.specs.WrittenScript.{IsWrittenScript}
 use Rattle.account_model.specs.Settings.{Setting, number}
 use Rattle.account_model.specs.Values.{is_field, is_folder, is_shell, is_days_value, is_expiration_value, given_uid, days_value, expiration_value, text_value}
 use Rattle.account_model.specs.GivenGroups.{given_group, given_groups}
 use Rattle.account_model.specs.Hashes.{locked}
-use Rattle.account_model.specs.Members.{add_to_group}
+use Rattle.account_model.specs.Members.{add_to_group, with_name}
 use Rattle.account_model.specs.Request.{Request, has_option, operand}
 use Rattle.account_model.specs.Refusals.{bad_name, bad_value, bad_key}
 use Rattle.account_model.specs.NewAccount.{kind_of, settings_for, free_uid, free_gid, new_hash, add_group}
@@ -33,13 +32,26 @@ use Rattle.account_model.specs.FreeRange.{IsFreeRange}
 use Rattle.account_model.specs.Ids.{is_used, used_gids}
 use Rattle.account_model.specs.SubidOwner.{is_owned}
 use Rattle.account_model.specs.NewRanges.{Subordinate, subordinate_uids, subordinate_gids, may_have_ranges, is_allotted, free_start, new_range, allotment, allotted}
-use Rattle.account_model.specs.Useradd.{makes_group, new_uid, gid_beside, own_gid, default_gid, primary_gid, useradd_checks, useradd_conflicts, new_home, new_user, new_shadow, plan_of, add_own_group, join_groups, add_user, useradd_script, useradd_under, useradd}
+use Rattle.account_model.specs.Useradd.{makes_group, new_uid, gid_beside, own_gid, default_gid, primary_gid, useradd_checks, useradd_conflicts, new_home, new_user, new_shadow, plan_of, add_own_group, join_groups, add_user, useradd_script, useradd_under}
 use Rattle.account_model.proofs.DeedLaws.{first-none}
 use Rattle.account_model.proofs.HeldLaws.{passwd-holds, shadow-holds, subid-holds}
 use Rattle.account_model.proofs.FieldFacts.{is_field-is, is_folder-is, is_shell-is, field-append, empty-field, valid-name, valid-listed, lacks-byte}
 use Rattle.account_model.proofs.RefusalFacts.{refuse-none, text-kept, field-kept, given-small}
 use Rattle.account_model.proofs.SettingBounds.{free-uid-small, free-gid-small, minimum-days, maximum-days, warning-days, subuid-maximum, subgid-maximum}
-use Rattle.account_model.proofs.WrittenScripts.{none-written, users-written, order-written, either-written, add-to-group-written, locked-field}
+use Rattle.account_model.proofs.WrittenScripts.{locked-field}
+use Rattle.account_model.proofs.ComposedScripts.{all-hold, either-holds}
+use Rattle.account_model.proofs.KeptIds.{may-give}
+use Rattle.account_model.proofs.LawfulParts.{members-lawful}
+use Rattle.account_model.proofs.LawfulScripts.{IsLawful, lawful, lawful-composed}
+use Rattle.account_model.proofs.LawfulTools.{LawfulTool, quiet-act}
+use Rattle.account_model.proofs.MemberLaws.{with-listed}
+use Rattle.account_model.proofs.NamedLaws.{Spares, not-others, not-this, users-spare}
+use Rattle.account_model.proofs.NamedParts.{first-has, new-group-spares}
+use Rattle.account_model.specs.declared.tool.Tool.TheVariants.{Useradd}
+use Rattle.account_model.specs.declared.new_user.Allotment.{Allotment}
+use Rattle.account_model.specs.declared.new_user.Plan.{Plan}
+use Rattle.account_model.specs.declared.records.SubidRecord.{SubidRecord}
+use Rattle.account_model.specs.NamedLines.{Named, named_by}
 use Rattle.account_model.proofs.GroupToolScripts.{add-group-written, password-by, new-hash-field}
 use Rattle.account_model.proofs.GivenFacts.{given-group-gid, expiration-held}
 use Rattle.account_model.proofs.AgingToolScripts.{days-held}
@@ -294,109 +306,163 @@ allotted-written request uid ids passes small =
 -- ---- useradd: the edits
 
 -- groups that are joined
-joined-written :
-    (user : List ℕ) (groups : List GroupRecord)
+joined-lawful :
+    (day : ℕ) (named : Named) (user : List ℕ) (groups : List GroupRecord)
     → IsListed user
-    → AllByRecursion IsWrittenScript (map (λ group. add_to_group group.name user) groups)
-joined-written user [] is = tt
-joined-written user (group ∷ groups) is =
-    (add-to-group-written group.name user is, joined-written user groups is)
+    → ((name : List ℕ) → is_listed name named.groups ≡ false
+    → is_listed name (map (λ group. group.name) groups) ≡ false)
+    → AllByRecursion (IsLawful day true false named) (map (λ group. add_to_group group.name user) groups)
+joined-lawful day named user [] is has = tt
+joined-lawful day named user (group ∷ groups) is has =
+    let others = map (λ other. other.name) groups
+    in (
+      members-lawful named group.name
+          (λ name none. not-this name group.name others (has name none)) (with_name user)
+          (λ names. with-listed user names is),
+      joined-lawful day named user groups is
+          (λ name none. not-others name group.name others (has name none)),
+    )
 
--- a user of this UID and this GID
-add-user-written :
-    (request : Request) (files : Files) (settings : List Setting) (day uid gid : ℕ)
-    → UseraddPasses request
-    → day ≤ greatest_days
-    → uid ≤ greatest_id
-    → gid ≤ greatest_id
-    → IsWrittenScript
-    (add_user request files (plan_of request files settings)
-    (new_shadow request settings day) uid gid)
-add-user-written request files settings day uid gid passes small small_uid small_gid = order-written
-    (record no_edits {
-      passwd = Add (new_user request files uid gid) ∷ [];
-      shadow = Put (new_shadow request settings day) ∷ [];
-    }
-    ∷ add_own_group request files (plan_of request files settings) gid
-    ∷ join_groups request files
-    ∷ record no_edits {
-      subuid = allotted request (plan_of request files settings).subuid;
-      subgid = allotted request (plan_of request files settings).subgid;
-    }
-    ∷ []) (
-      users-written _ _ (
+-- a new line of a range leaves all others
+range-spares :
+    (request : Request) (allotment : Allotment) (names : SubidRecord → Bool)
+    → AllByRecursion (Spares subid_format false names) (allotted request allotment)
+range-spares request Unwanted names = tt
+range-spares request Full names = tt
+range-spares request (Range first count) names = (tt, tt)
+
+module _ (request : Request) (files : Files) (settings : List Setting) (day : ℕ) where
+  -- what it names
+  abbrev useradd_names : Named
+  useradd_names = named_by Useradd request [] files
+
+  -- what is planned
+  abbrev plan : Plan
+  plan = plan_of request files settings
+
+  -- the lines of passwd and shadow
+  user-lines-lawful :
+      (uid gid : ℕ)
+      → UseraddPasses request
+      → uid ≤ greatest_id
+      → gid ≤ greatest_id
+      → IsLawful day true false useradd_names (record no_edits {
+        passwd = Add (new_user request files uid gid) ∷ [];
+        shadow = Put (new_shadow request settings day) ∷ [];
+      })
+  user-lines-lawful uid gid passes small_uid small_gid = record {
+    written = record {
+      passwd = (
         passwd-holds.written (new_user request files uid gid)
             (new-user-held request files uid gid passes small_uid small_gid),
         tt,
-      ) (
+      );
+      shadow = λ small. (
         shadow-holds.written (new_shadow request settings day)
             (new-shadow-held request settings day passes small),
         tt,
-      ),
-      (
-        either-written (makes_group request settings)
-            (add_group (operand request) locked gid files) no_edits
-            (add-group-written (operand request) locked gid files
-            (valid-name (operand request) passes.name) locked-field small_gid)
-            none-written,
+      );
+      group = tt;
+      gshadow = tt;
+      subuid = tt;
+      subgid = tt;
+    };
+    spares = users-spare _ _ (tt, tt) ((λ r. first-has (operand request) [] r.name), tt);
+    keep = may-give;
+  }
+
+  -- those of ranges
+  range-lines-lawful :
+      UseraddPasses request
+      → IsLawful day true false useradd_names
+      (record no_edits {
+        subuid = allotted request plan.subuid;
+        subgid = allotted request plan.subgid;
+      })
+  range-lines-lawful passes = lawful (record {
+    passwd = tt;
+    shadow = tt;
+    group = tt;
+    gshadow = tt;
+    subuid = allotted-written request (new_uid request files settings)
+        (subordinate_uids files settings) passes (subuid-maximum settings);
+    subgid = allotted-written request (new_uid request files settings)
+        (subordinate_gids files settings) passes (subgid-maximum settings);
+  }) (record {
+    passwd = tt;
+    shadow = tt;
+    group = tt;
+    gshadow = tt;
+    subuid = range-spares request plan.subuid _;
+    subgid = range-spares request plan.subgid _;
+  }) may-give
+
+  -- a user of this UID and this GID
+  add-user-lawful :
+      (uid gid : ℕ)
+      → UseraddPasses request
+      → uid ≤ greatest_id
+      → gid ≤ greatest_id
+      → IsLawful day true false useradd_names
+      (add_user request files plan (new_shadow request settings day) uid gid)
+  add-user-lawful uid gid passes small_uid small_gid =
+      let composed = lawful-composed useradd_names
+      in let others = map (λ group. group.name) (given_groups request files)
+      in all-hold composed (record no_edits {
+        passwd = Add (new_user request files uid gid) ∷ [];
+        shadow = Put (new_shadow request settings day) ∷ [];
+      }
+      ∷ add_own_group request files plan gid
+      ∷ join_groups request files
+      ∷ record no_edits {
+        subuid = allotted request plan.subuid;
+        subgid = allotted request plan.subgid;
+      }
+      ∷ []) (
+        user-lines-lawful uid gid passes small_uid small_gid,
         (
-          order-written (map (λ group. add_to_group group.name (operand request))
-              (given_groups request files))
-              (joined-written (operand request) (given_groups request files)
-              (valid-listed (operand request) passes.name)),
+          either-holds composed (makes_group request settings)
+              (add_group (operand request) locked gid files) no_edits
+              (lawful (add-group-written (operand request) locked gid files
+              (valid-name (operand request) passes.name) locked-field small_gid)
+              (new-group-spares useradd_names (operand request)
+              (first-has (operand request) others) locked gid files) may-give)
+              composed.none,
           (
-            record {
-              passwd = tt;
-              shadow = tt;
-              group = tt;
-              gshadow = tt;
-              subuid = allotted-written request (new_uid request files settings)
-                  (subordinate_uids files settings) passes (subuid-maximum settings);
-              subgid = allotted-written request (new_uid request files settings)
-                  (subordinate_gids files settings) passes (subgid-maximum settings);
-            },
-            tt,
+            all-hold composed (map (λ group. add_to_group group.name (operand request))
+                (given_groups request files))
+                (joined-lawful day useradd_names (operand request) (given_groups request files)
+                (valid-listed (operand request) passes.name)
+                (λ name. not-others name (operand request) others)),
+            (range-lines-lawful passes, tt),
           ),
         ),
-      ),
-    )
+      )
 
--- a user, where there are a UID and a GID
-useradd-script-written :
-    (request : Request) (files : Files) (settings : List Setting) (day : ℕ) (uid gid : Option ℕ)
-    → UseraddPasses request
-    → day ≤ greatest_days
-    → ((n : ℕ) → uid ≡ Some n → n ≤ greatest_id)
-    → ((n : ℕ) → gid ≡ Some n → n ≤ greatest_id)
-    → IsWrittenScript (useradd_script request files (plan_of request files settings)
-    (new_shadow request settings day) uid gid)
-useradd-script-written request files settings day None gid passes small small_uid
-    small_gid = none-written
-useradd-script-written request files settings day (Some uid) None passes small small_uid
-    small_gid = none-written
-useradd-script-written request files settings day (Some uid) (Some gid) passes small
-    small_uid small_gid =
-    add-user-written request files settings day uid gid passes small (small_uid uid refl)
-    (small_gid gid refl)
+  -- a user, where there are a UID and a GID
+  useradd-script-lawful :
+      (uid gid : Option ℕ)
+      → UseraddPasses request
+      → ((n : ℕ) → uid ≡ Some n → n ≤ greatest_id)
+      → ((n : ℕ) → gid ≡ Some n → n ≤ greatest_id)
+      → IsLawful day true false useradd_names
+      (useradd_script request files plan (new_shadow request settings day) uid gid)
+  useradd-script-lawful None gid passes small_uid small_gid = (lawful-composed useradd_names).none
+  useradd-script-lawful (Some uid) None passes small_uid small_gid =
+      (lawful-composed useradd_names).none
+  useradd-script-lawful (Some uid) (Some gid) passes small_uid small_gid =
+      add-user-lawful uid gid passes (small_uid uid refl) (small_gid gid refl)
 
--- useradd under settings
-useradd-under-written :
-    (settings : List Setting) (request : Request) (files : Files) (day : ℕ)
-    → day ≤ greatest_days
-    → first_some (useradd_under settings request files day).refusals ≡ None
-    → IsWrittenScript (useradd_under settings request files day).script
-useradd-under-written settings request files day small none =
-    useradd-script-written request files settings day (new_uid request files settings)
-    (primary_gid request files settings)
-    (useradd-passes request (useradd_conflicts request files (plan_of request files settings)) none)
-    small
-    (new-uid-small request files settings) (primary-gid-small request files settings)
+  -- useradd under settings
+  useradd-under-lawful :
+      first_some (useradd_under settings request files day).refusals ≡ None
+      → IsLawful day true false useradd_names (useradd_under settings request files day).script
+  useradd-under-lawful none =
+      useradd-script-lawful (new_uid request files settings) (primary_gid request files settings)
+      (useradd-passes request (useradd_conflicts request files plan) none)
+      (new-uid-small request files settings) (primary-gid-small request files settings)
 
 -- useradd adds a valid name with tested values and IDs
-pub useradd-written :
-    (request : Request) (files : Files) (settings : List Setting) (day : ℕ)
-    → day ≤ greatest_days
-    → first_some (useradd request files settings day).refusals ≡ None
-    → IsWrittenScript (useradd request files settings day).script
-useradd-written request files settings day small none =
-    useradd-under-written (settings_for request settings) request files day small none
+pub useradd-lawful : LawfulTool Useradd
+useradd-lawful request input day files settings = quiet-act refl refl refl
+    (useradd-under-lawful request files (settings_for request settings) day)

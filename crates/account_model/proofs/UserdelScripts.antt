@@ -1,25 +1,34 @@
--- userdel prints only records that read back (`userdel-written`). Way: lists lose names, and all else goes.
-use Rattle.std.proofs.Common.{ℕ, Bool, List, [], ◌∷◌}
+-- userdel is lawful (`userdel-lawful`). Way: lists lose names, and all else goes, of the user that the command names.
+use Rattle.std.proofs.Common.{ℕ, Bool, false, ◌||◌, List, [], ◌∷◌, refl, ap, ◌∙◌}
+use Rattle.std.proofs.lemmas.Bool.{or_parts}
 use Rattle.std.specs.Prelude.{Option, Some, None}
 use Rattle.std.specs.List.{AllByRecursion}
 use Rattle.acct_text.specs.declared.files.Files.{Files}
-use Rattle.account_model.specs.declared.records.GroupRecord.{GroupRecord}
 use Rattle.account_model.specs.declared.records.SubidRecord.{SubidRecord}
+use Rattle.account_model.specs.declared.tool.Tool.TheVariants.{Userdel}
+use Rattle.account_model.specs.Text.{is_listed}
 use Rattle.account_model.specs.Format.{is_named}
+use Rattle.account_model.specs.Members.{without_name}
+use Rattle.account_model.specs.SubidOwner.{is_owned}
+use Rattle.account_model.specs.NamedLines.{Named, lists_any, named_by, names_subid}
 use Rattle.account_model.specs.Records.{passwd_format, shadow_format, group_format, gshadow_format, subid_format}
 use Rattle.account_model.specs.RecordEdits.{IsWrittenEdit}
 use Rattle.account_model.specs.Edits.{drop_where}
 use Rattle.account_model.specs.Written.{IsPasswd, IsShadow, IsGroup, IsGshadow, IsSubid}
 use Rattle.account_model.specs.Tables.{no_edits}
 use Rattle.account_model.specs.WrittenScript.{IsWrittenScript}
-use Rattle.account_model.specs.Settings.{Setting}
 use Rattle.account_model.specs.Request.{Request, operand}
 use Rattle.account_model.specs.Groupdel.{remove_group}
-use Rattle.account_model.specs.Userdel.{Kept, group_without, gshadow_without, remove_user, own_group, reason_to_keep, own_group_script, userdel}
+use Rattle.account_model.specs.Userdel.{Kept, group_without, gshadow_without, remove_user, own_group, own_uid, reason_to_keep, own_group_script}
 use Rattle.account_model.proofs.HeldLaws.{passwd-holds, shadow-holds, group-holds, gshadow-holds, subid-holds, each-written, drop_where-written}
-use Rattle.account_model.proofs.WrittenScripts.{none-written, order-written, some-written}
+use Rattle.account_model.proofs.ComposedScripts.{all-hold, some-holds}
+use Rattle.account_model.proofs.LawfulScripts.{IsLawful, lawful, lawful-composed}
+use Rattle.account_model.proofs.LawfulTools.{LawfulTool, quiet-act}
+use Rattle.account_model.proofs.NamedLaws.{Spares, SparesUnnamed, drop-spares, not-owned, unlisted-stays}
+use Rattle.account_model.proofs.NamedParts.{first-has, other-user, removed-spares}
 use Rattle.account_model.proofs.MemberLaws.{without-listed}
-use Rattle.account_model.proofs.GroupToolScripts.{remove-group-written}
+use Rattle.account_model.proofs.GroupToolScripts.{remove-group-keeps, remove-group-written}
+use Rattle.account_model.proofs.KeptIds.{KeepIds, drop-keeps, numbers_of}
 
 -- ranges that go
 subid-dropped :
@@ -62,29 +71,94 @@ remove-user-written user files = record {
   subgid = subid-dropped _;
 }
 
--- the own group of a user goes or is kept
-own-group-written :
-    (request : Request) (group : GroupRecord) (kept : Option Kept)
-    → IsWrittenScript (elim kept [ None ↦ remove_group (operand request) | Some reason ↦ no_edits ])
-own-group-written request group None = remove-group-written (operand request)
-own-group-written request group (Some reason) = none-written
+-- and gives no ID
+remove-user-keeps : (user : List ℕ) (files : Files) → KeepIds (remove_user user files)
+remove-user-keeps user files = record {
+  passwd = (drop-keeps (λ one. one.uid) (is_named passwd_format user), tt);
+  group = ((λ r. refl), tt);
+  subuid = (drop-keeps numbers_of (is_owned user (own_uid user files)), tt);
+  subgid = (drop-keeps numbers_of (is_owned user (own_uid user files)), tt);
+}
+
+module _ (request : Request) (files : Files) where
+  -- what it names
+  abbrev userdel_names : Named
+  userdel_names = named_by Userdel request [] files
+
+  -- its ranges go
+  ranges-dropped :
+      Spares subid_format false (names_subid userdel_names)
+      (drop_where (is_owned (operand request) (own_uid (operand request) files)))
+  ranges-dropped = drop-spares subid_format false _
+      (is_owned (operand request) (own_uid (operand request) files))
+      (not-owned (operand request) (own_uid (operand request) files))
+
+  -- a user who goes leaves all others
+  removal-spares : SparesUnnamed false userdel_names (remove_user (operand request) files)
+  removal-spares = record {
+    passwd = (
+      drop-spares passwd_format false _ (is_named passwd_format (operand request))
+          (other-user userdel_names (operand request) (first-has (operand request) [])),
+      tt,
+    );
+    shadow = (
+      drop-spares shadow_format false _ (is_named shadow_format (operand request))
+          (λ r. first-has (operand request) [] r.name),
+      tt,
+    );
+    group = (
+      (λ r none. ap (λ (members : List (List ℕ)). record r { members = members } ∷ [])
+          (unlisted-stays (operand request) r.members
+          (or_parts (is_listed r.name userdel_names.groups)
+          (lists_any r.members userdel_names.users) none).1)),
+      tt,
+    );
+    gshadow = (
+      (λ r none.
+          let parts = or_parts (is_listed r.name userdel_names.groups)
+          (lists_any r.members userdel_names.users
+          || lists_any r.administrators userdel_names.users) none
+          in let lists = or_parts (lists_any r.members userdel_names.users)
+          (lists_any r.administrators userdel_names.users) parts.1
+          in ap (λ (members : List (List ℕ)). record r {
+            administrators = without_name (operand request) r.administrators;
+            members = members;
+          } ∷ []) (unlisted-stays (operand request) r.members lists.0)
+          ∙ ap (λ (administrators : List (List ℕ)).
+          record r { administrators = administrators } ∷ [])
+          (unlisted-stays (operand request) r.administrators lists.1)),
+      tt,
+    );
+    subuid = (ranges-dropped, tt);
+    subgid = (ranges-dropped, tt);
+  }
+
+  -- the own group of a user goes or is kept
+  own-group-lawful :
+      {day : ℕ} (kept : Option Kept)
+      → IsLawful day false false userdel_names
+      (elim kept [ None ↦ remove_group (operand request) | Some reason ↦ no_edits ])
+  own-group-lawful None = lawful (remove-group-written (operand request))
+      (removed-spares userdel_names (operand request) (first-has (operand request) []))
+      (λ none. remove-group-keeps (operand request))
+  own-group-lawful (Some reason) = (lawful-composed userdel_names).none
 
 -- userdel adds nothing
-pub userdel-written :
-    (request : Request) (files : Files) (settings : List Setting)
-    → IsWrittenScript (userdel request files settings).script
-userdel-written request files settings =
-    order-written (remove_user (operand request) files
-    ∷ own_group_script request files settings ∷ []) (
-      remove-user-written (operand request) files,
+pub userdel-lawful : LawfulTool Userdel
+userdel-lawful request input day files settings =
+    let composed = lawful-composed (userdel_names request files)
+    in quiet-act refl refl refl (λ none. all-hold composed
+    (remove_user (operand request) files ∷ own_group_script request files settings ∷ []) (
+      lawful (remove-user-written (operand request) files) (removal-spares request files)
+          (λ none. remove-user-keeps (operand request) files),
       (
-        some-written
+        some-holds composed
             (λ group. elim (reason_to_keep request files group) [
               | None ↦ remove_group (operand request)
               | Some kept ↦ no_edits
             ])
             (own_group request files settings)
-            (λ group found. own-group-written request group (reason_to_keep request files group)),
+            (λ group found. own-group-lawful request files (reason_to_keep request files group)),
         tt,
       ),
-    )
+    ))

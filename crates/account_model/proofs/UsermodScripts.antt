@@ -1,4 +1,4 @@
--- usermod prints only records that read back, where it doesn't refuse: `usermod-written`. Way: the refusals show that
+-- usermod is lawful (`usermod-lawful`). Way: the refusals show that
 -- each value can stand in a line, and then each edit keeps that; a range that is cut keeps its bounds.
 use Rattle.std.proofs.Common.{◌≡◌, ℕ, ◌≤◌, Bool, true, false, ◌||◌, not, List, [], ◌∷◌, ◌++◌, map, refl, sym, ◌∙◌}
 use Rattle.std.specs.Prelude.{Option, Some, None, codes, bytes_eq, drop, unwrap_or, if◌then◌else◌}
@@ -19,7 +19,6 @@ use Rattle.account_model.specs.Names.{is_valid_name}
 use Rattle.account_model.specs.Records.{passwd_format, shadow_format, group_format, gshadow_format, greatest_id, greatest_days, read_id}
 use Rattle.account_model.specs.Written.{IsField, IsNameField, IsListed, IsDaysNumber, IsPasswd, IsShadow, IsGroup, IsGshadow}
 use Rattle.account_model.specs.Tables.{no_edits}
-use Rattle.account_model.specs.WrittenScript.{IsWrittenScript}
 use Rattle.account_model.specs.Values.{is_field, is_folder, is_shell, is_days_value, is_expiration_value, days_value, expiration_value}
 use Rattle.account_model.specs.GivenGroups.{given_groups, unknown_group, unknown_groups}
 use Rattle.account_model.specs.Hashes.{locked, demand_shadow, each_user_hash}
@@ -28,12 +27,20 @@ use Rattle.account_model.specs.Request.{Request, has_option, value_of, operand}
 use Rattle.account_model.specs.Refusals.{bad_value, missing_user, bad_list_name}
 use Rattle.account_model.specs.UsermodHash.{sets_hash, sets_aging, locked_hash, unlocked_hash, relocked_hash, hash_after, hash_script}
 use Rattle.account_model.specs.UsermodRanges.{meeting_in}
-use Rattle.account_model.specs.Usermod.{new_name, changed_user, changed_shadow, is_listed_group, joined_or_left, members_after, changed_group, changed_gshadow, range_owner, subuid_change, subgid_change, taken_name, taken_uid, empty_hash, no_shadow, unlistable_name, usermod_checks, usermod_conflicts, usermod_refusals, change_user, usermod}
+use Rattle.account_model.specs.Usermod.{new_name, changed_user, changed_shadow, is_listed_group, joined_or_left, members_after, changed_group, changed_gshadow, range_owner, subuid_change, subgid_change, taken_name, taken_uid, empty_hash, no_shadow, unlistable_name, usermod_checks, usermod_conflicts, usermod_refusals, change_user}
 use Rattle.account_model.proofs.DeedLaws.{first-none}
 use Rattle.account_model.proofs.HeldLaws.{passwd-holds, shadow-holds, group-holds, gshadow-holds, each-written, each_where-written}
 use Rattle.account_model.proofs.FieldFacts.{is_field-is, is_folder-is, is_shell-is, valid-name, valid-listed}
 use Rattle.account_model.proofs.RefusalFacts.{text-kept, field-kept, good-value, user-named, user-listed}
-use Rattle.account_model.proofs.WrittenScripts.{none-written, order-written, either-written, locked-field, demand-shadow-written, user-hash-written}
+use Rattle.account_model.proofs.WrittenScripts.{locked-field}
+use Rattle.account_model.proofs.ComposedScripts.{all-hold, either-holds}
+use Rattle.account_model.proofs.KeptIds.{may-give}
+use Rattle.account_model.proofs.LawfulParts.{demand-lawful, hash-lawful}
+use Rattle.account_model.proofs.LawfulScripts.{IsLawful, IsWrittenOn, lawful-composed}
+use Rattle.account_model.proofs.LawfulTools.{LawfulTool, quiet-act}
+use Rattle.account_model.proofs.NamedParts.{first-has}
+use Rattle.account_model.proofs.UsermodSpares.{change-spares, usermod_names}
+use Rattle.account_model.specs.declared.tool.Tool.TheVariants.{Usermod}
 use Rattle.account_model.proofs.MemberLaws.{with-listed, without-listed, renamed-listed}
 use Rattle.account_model.proofs.UsermodRangeScripts.{added-ordered, range-edits-written}
 use Rattle.account_model.proofs.GivenFacts.{given-group-gid, expiration-held}
@@ -208,23 +215,27 @@ changed-shadow-held request files day r passes small is = record {
 }
 
 -- the line on demand, and the hash
-hash-script-written :
-    (request : Request) (files : Files)
+hash-script-lawful :
+    {day : ℕ} (request : Request) (files : Files)
     → UsermodPasses request files
-    → IsWrittenScript (hash_script request files)
-hash-script-written request files passes = order-written
+    → IsLawful day true false (usermod_names request files) (hash_script request files)
+hash-script-lawful request files passes =
+    let named = usermod_names request files
+    in let composed = lawful-composed named
+    in let has = first-has (operand request) []
+    in all-hold composed
     ((if sets_hash request || sets_aging request
     then demand_shadow (operand request) files else no_edits)
     ∷ (if sets_hash request then each_user_hash (operand request) (hash_after request)
     files else no_edits)
     ∷ []) (
-      either-written (sets_hash request || sets_aging request) _ no_edits
-          (demand-shadow-written (operand request) files) none-written,
+      either-holds composed (sets_hash request || sets_aging request) _ no_edits
+          (demand-lawful named (operand request) has files) composed.none,
       (
-        either-written (sets_hash request) _ no_edits
-            (user-hash-written (operand request) (hash_after request) files
+        either-holds composed (sets_hash request) _ no_edits
+            (hash-lawful named (operand request) has (hash_after request) files
             (λ hash is. hash-after-field request files hash passes is))
-            none-written,
+            composed.none,
         tt,
       ),
     )
@@ -332,16 +343,15 @@ changed-gshadow-held request files r passes is = record {
 change-user-written :
     (request : Request) (files : Files) (day : ℕ)
     → UsermodPasses request files
-    → day ≤ greatest_days
-    → IsWrittenScript (change_user request files day)
-change-user-written request files day passes small = record {
+    → IsWrittenOn day (change_user request files day)
+change-user-written request files day passes = record {
   passwd = (
     each_where-written passwd_format IsPasswd passwd-holds
         (is_named passwd_format (operand request))
         (changed_user request files) (λ r is. changed-user-held request files r passes is),
     tt,
   );
-  shadow = (
+  shadow = λ small. (
     each_where-written shadow_format IsShadow shadow-holds
         (is_named shadow_format (operand request))
         (changed_shadow request day) (λ r is. changed-shadow-held request files
@@ -367,14 +377,18 @@ change-user-written request files day passes small = record {
 }
 
 -- usermod sets tested values
-pub usermod-written :
-    (request : Request) (files : Files) (day : ℕ)
-    → day ≤ greatest_days
-    → first_some (usermod request files day).refusals ≡ None
-    → IsWrittenScript (usermod request files day).script
-usermod-written request files day small none =
+pub usermod-lawful : LawfulTool Usermod
+usermod-lawful request input day files settings = quiet-act refl refl refl (λ none.
     let passes = usermod-passes request files none
-    in order-written (hash_script request files ∷ change_user request files day ∷ []) (
-      hash-script-written request files passes,
-      (change-user-written request files day passes small, tt),
-    )
+    in all-hold (lawful-composed (usermod_names request files))
+    (hash_script request files ∷ change_user request files day ∷ []) (
+      hash-script-lawful request files passes,
+      (
+        record {
+          written = change-user-written request files day passes;
+          spares = change-spares request files day;
+          keep = may-give;
+        },
+        tt,
+      ),
+    ))

@@ -3,13 +3,13 @@
 -- each way to spell an option tells its row of the tool's table, by its letter or by its long name,
 -- and no two rows of a tool have one letter (`letters-apart`). The rows of the folder count for
 -- nothing among options without it.
-use Rattle.std.proofs.Common.{◌≡◌, ℕ, Bool, true, false, ◌==◌, List, [], ◌∷◌, length, refl, sym, ap, subst, ◌∙◌, inl, inr, eq-eqb, arith}
+use Rattle.std.proofs.Common.{◌≡◌, ℕ, Bool, true, false, not, ◌&&◌, ◌==◌, List, [], ◌∷◌, length, refl, sym, ap, subst, ◌∙◌, inl, inr, eq-eqb, arith}
 use Rattle.std.specs.Prelude.{Option, Some, None, find, is_some}
-use Rattle.std.specs.List.{AllByRecursion}
-use Rattle.std.proofs.lemmas.Bool.{cases_Bool, eqb-true}
+use Rattle.std.specs.List.{AllByRecursion, list_all}
+use Rattle.std.proofs.lemmas.Bool.{and_parts, cases_Bool, eqb-true, not-true}
 use Rattle.account_model.specs.declared.given.Given.{Given}
 use Rattle.account_model.specs.declared.tool.Tool.{Tool}
-use Rattle.account_model.specs.declared.tool.Tool.TheVariants.{Useradd, Usermod, Userdel, Groupadd, Groupmod, Groupdel, Gpasswd, Chage, Chpasswd, Pwck, Grpck, Getsubids, Batch}
+use Rattle.account_model.specs.declared.tool.Tool.TheVariants.{Batch}
 use Rattle.account_model.specs.Options.{Word, OptionForm, prefix_letter, root_letter, is_prefix, option_forms, own_options, operands_of, most_operands}
 use Rattle.account_model.specs.Request.{Request, has_option, value_of, last_value, operand as operand_of}
 use Rattle.account_model.specs.Spelling.{form_of_letter, HasLetter, HasName, Spelled, nothing, end_of_options, operand, letter_flag, letter_bundle, letter_with_value, letter_then_value, name_flag, name_with_value, name_then_value}
@@ -25,87 +25,42 @@ use Rattle.command_values.proofs.OptionLemmas.{values_in}
 abbrev IsOnlyRow : List OptionForm → OptionForm → Type 0
 IsOnlyRow table form = form_of_letter table form.letter ≡ Some form
 
+-- no row has the letter of an earlier one
+abbrev are_apart : List OptionForm → Bool
+are_apart [] = true
+are_apart (form ∷ rest) =
+    list_all (λ other. not (form.letter == other.letter)) rest && are_apart rest
+
+-- a row in front of others has its letter
+front-only : (form : OptionForm) (rest : List OptionForm) → IsOnlyRow (form ∷ rest) form
+front-only form rest = rw (eq-eqb form.letter form.letter refl) refl
+
+-- one in front with other letters changes nothing
+behind-only :
+    (form : OptionForm) (table rows : List OptionForm)
+    → list_all (λ other. not (form.letter == other.letter)) rows ≡ true
+    → AllByRecursion (IsOnlyRow table) rows
+    → AllByRecursion (IsOnlyRow (form ∷ table)) rows
+behind-only form table [] others all = tt
+behind-only form table (row ∷ rows) others all =
+    let parts = and_parts (not (form.letter == row.letter)) _ others in (
+      rw (not-true (form.letter == row.letter) parts.0) all.0,
+      behind-only form table rows parts.1 all.1,
+    )
+
+-- so each row is the only one with its letter
+rows-only :
+    (table : List OptionForm) → are_apart table ≡ true → AllByRecursion (IsOnlyRow table) table
+rows-only [] apart = tt
+rows-only (form ∷ rest) apart =
+    let parts = and_parts (list_all (λ other. not (form.letter == other.letter)) rest)
+    (are_apart rest) apart in
+    (front-only form rest, behind-only form rest rest parts.0 (rows-only rest parts.1))
+
 -- no two rows of a tool have one letter
-letters-apart : (tool : Tool) → AllByRecursion (IsOnlyRow (option_forms tool)) (option_forms tool)
-letters-apart Useradd = (
-  refl,
-  (
-    refl,
-    (
-      refl,
-      (
-        refl,
-        (
-          refl,
-          (
-            refl,
-            (
-              refl,
-              (
-                refl,
-                (
-                  refl,
-                  (
-                    refl,
-                    (
-                      refl,
-                      (refl, (refl, (refl, (refl, (refl, (refl, (refl, (refl, (refl, tt))))))))),
-                    ),
-                  ),
-                ),
-              ),
-            ),
-          ),
-        ),
-      ),
-    ),
-  ),
-)
-letters-apart Usermod = (
-  refl,
-  (
-    refl,
-    (
-      refl,
-      (
-        refl,
-        (
-          refl,
-          (
-            refl,
-            (
-              refl,
-              (
-                refl,
-                (
-                  refl,
-                  (
-                    refl,
-                    (
-                      refl,
-                      (refl, (refl, (refl, (refl, (refl, (refl, (refl, (refl, (refl, tt))))))))),
-                    ),
-                  ),
-                ),
-              ),
-            ),
-          ),
-        ),
-      ),
-    ),
-  ),
-)
-letters-apart Userdel = (refl, (refl, (refl, tt)))
-letters-apart Groupadd = (refl, (refl, (refl, (refl, (refl, (refl, (refl, (refl, tt))))))))
-letters-apart Groupmod = (refl, (refl, (refl, (refl, (refl, (refl, tt))))))
-letters-apart Groupdel = (refl, (refl, (refl, tt)))
-letters-apart Gpasswd = (refl, (refl, (refl, (refl, (refl, (refl, (refl, (refl, tt))))))))
-letters-apart Chage = (refl, (refl, (refl, (refl, (refl, (refl, (refl, (refl, (refl, tt)))))))))
-letters-apart Chpasswd = (refl, (refl, (refl, tt)))
-letters-apart Pwck = (refl, (refl, (refl, (refl, (refl, tt)))))
-letters-apart Grpck = (refl, (refl, (refl, (refl, tt))))
-letters-apart Getsubids = (refl, (refl, (refl, tt)))
-letters-apart Batch = (refl, (refl, (refl, tt)))
+letters-apart : (tool : Tool) → are_apart (option_forms tool) ≡ true
+letters-apart Batch = refl
+letters-apart tool = refl
 
 -- what holds of all holds of the one that is found
 holds-found :
@@ -196,7 +151,7 @@ pub asks-keeps_row :
 asks-keeps_row words request asks =
     let tool = request.tool in
     let all =
-    spelled-of_table (option_forms tool) (letters-apart tool) asks.arguments asks.given
+    spelled-of_table (option_forms tool) (rows-only (option_forms tool) (letters-apart tool)) asks.arguments asks.given
     request.operands asks.spelled in
     record {
       options = subst (AllByRecursion (IsOfTable (own_options tool))) (sym asks.options)

@@ -17,14 +17,14 @@ use Rattle.account_model.specs.Change.{action_of}
 use Rattle.account_model.specs.Answer.{deed}
 use Rattle.account_model.proofs.BatchLaws.{IsMade, any-line, batch-keeps, outcome-made}
 use Rattle.account_model.proofs.DeedLaws.{deed-makes}
-use Rattle.account_model.specs.WrittenScript.{IsWrittenScript}
+use Rattle.account_model.proofs.LawfulScripts.{IsWrittenOn}
+use Rattle.account_model.proofs.ToolLaws.{meaning}
 use Rattle.account_model.proofs.SameLaws.{passwd-tells, group-tells, subid-tells}
 use Rattle.account_model.proofs.EditLines.{table-edited}
 use Rattle.ids_apart.specs.Holders.{gid_holders, has_number, shares_gid, shares_uid, subgid_holders, subuid_holders, uid_holders}
 use Rattle.ids_apart.specs.Laws.{AddsNoHolder, DeedsAddNoHolders, MeetNoMore, NoneDoes}
 use Rattle.ids_apart.proofs.Keys.{has_key}
 use Rattle.ids_apart.proofs.Kept.{uid_key, gid_key, KeepsApart, table-meets}
-use Rattle.ids_apart.proofs.Days.{without_hashes, written-always}
 use Rattle.ids_apart.proofs.Tools.{tool-keeps}
 
 -- ---- What a tool makes
@@ -45,13 +45,12 @@ module _ (request : Request) (input : List ℕ) (day : ℕ) (old : Files) (setti
   made_files = ap (λ (one : Made). one.files) is_made.makes
 
   -- what they print of the four tables reads back
-  written : IsWrittenScript (without_hashes script)
-  written = written-always request input day old settings is_made.passes
+  written : IsWrittenOn day script
+  written = ((meaning request.tool request input day old settings).script is_made.passes).written
 
   -- what the tool keeps apart
   keeps : KeepsApart request.tool request old script
   keeps = tool-keeps request input day old settings request.tool is_made.passes is_made.single
-      written
 
   -- subuid
   subuids-met : (number : ℕ) → MeetNoMore (subuid_holders number old)

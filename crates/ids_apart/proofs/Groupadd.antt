@@ -22,8 +22,9 @@ use Rattle.account_model.specs.Action.{changes}
 use Rattle.account_model.specs.NewAccount.{kind_of, settings_for, new_hash, new_group, add_group}
 use Rattle.account_model.specs.Groupadd.{is_gid_taken, other_gid, new_gid, groupadd_checks, groupadd_conflicts, is_content, groupadd_script, groupadd}
 use Rattle.ids_apart.specs.Holders.{is_given, shares_gid_by}
+use Rattle.account_model.proofs.KeptIds.{keep-composed}
 use Rattle.ids_apart.proofs.Keys.{has_key}
-use Rattle.ids_apart.proofs.Kept.{gid_key, KeepsApart, stays-table, gentle-apart, none-gentle}
+use Rattle.ids_apart.proofs.Kept.{gid_key, KeepsApart, stays-table, kept-apart}
 use Rattle.ids_apart.proofs.Refusals.{behind-none}
 use Rattle.ids_apart.proofs.Shared.{unshared}
 use Rattle.ids_apart.proofs.Unused.{chosen-unused, refuse-fails, push-keeps}
@@ -100,10 +101,10 @@ script-apart :
     → is_used (used_gids files) id ≡ false)
     → KeepsApart Groupadd request files
     (elim gid as (λ n. Script) [ None ↦ no_edits | Some n ↦ add_group name hash n files ])
-script-apart request name hash files None unused = gentle-apart none-gentle
+script-apart request name hash files None unused = kept-apart keep-composed.none
 script-apart request name hash files (Some gid) unused =
     let new = new_group name (if is_some files.gshadow then elsewhere else hash) gid
-    in let none = gentle-apart {tool = Groupadd} {request = request} {files = files} none-gentle
+    in let none = kept-apart {tool = Groupadd} {request = request} {files = files} keep-composed.none
     in record {
       uids = none.uids;
       gids = λ id shares. stays-table group_format (has_key gid_key id) files.group (Add new ∷ [])
@@ -129,7 +130,7 @@ groupadd-by :
     then changes (groupadd_checks name request) no_edits
     else changes (groupadd_checks name request ++ groupadd_conflicts name request files settings)
     (groupadd_script name request files settings)).script
-groupadd-by name request files settings true none = gentle-apart none-gentle
+groupadd-by name request files settings true none = kept-apart keep-composed.none
 groupadd-by name request files settings false none =
     let passed = behind-none (groupadd_checks name request)
     (groupadd_conflicts name request files settings) none

@@ -32,7 +32,8 @@ use Rattle.ids_apart.proofs.NewKeys.{IsFreeKey, set-meets}
 use Rattle.ids_apart.proofs.Refusals.{all-none, map-none}
 use Rattle.ids_apart.proofs.Shared.{unshared}
 use Rattle.ids_apart.proofs.Unused.{refuse-fails, unused-count}
-use Rattle.ids_apart.proofs.Quiet.{LeavesRanges, IsQuiet, none-leaves, followed-leaves, leaves-gentle, option-quiet, group-hash-quiet}
+use Rattle.account_model.proofs.ComposedScripts.{option-holds}
+use Rattle.ids_apart.proofs.Quiet.{LeavesRanges, IsQuiet, leaves-composed, leaves-gentle, quiet-composed, group-hash-quiet}
 
 -- ---- The parts of the script
 
@@ -45,8 +46,8 @@ hash_part group request files =
 hash-quiet : (group : List ℕ) (request : Request) (files : Files)
     → IsQuiet (hash_part group request files)
 hash-quiet group request files =
-    option-quiet (codes "p") request (λ hash. set_group_hash group hash files)
-    (λ hash. group-hash-quiet group hash files)
+    option-holds quiet-composed (codes "p") request (λ hash. set_group_hash group hash files)
+    (λ hash given. group-hash-quiet group hash files)
 
 -- the GID, by the one that is given and the group that is found
 abbrev gid_part : List ℕ → Option ℕ → Option GroupRecord → Script
@@ -59,8 +60,8 @@ gid_part group given found = elim given as (λ n. Script) [
 gid-leaves :
     (group : List ℕ) (given : Option ℕ) (found : Option GroupRecord)
     → LeavesRanges (gid_part group given found)
-gid-leaves group None found = none-leaves
-gid-leaves group (Some gid) None = none-leaves
+gid-leaves group None found = leaves-composed.none
+gid-leaves group (Some gid) None = leaves-composed.none
 gid-leaves group (Some gid) (Some old) = record { subuid = refl; subgid = refl }
 
 -- users of the old GID get the new one, and keep their UIDs
@@ -83,7 +84,7 @@ name_part group given =
 -- it leaves ranges
 name-leaves :
     (group : List ℕ) (given : Option (List ℕ)) → LeavesRanges (name_part group given)
-name-leaves group None = none-leaves
+name-leaves group None = leaves-composed.none
 name-leaves group (Some name) = record { subuid = refl; subgid = refl }
 
 -- and users
@@ -113,11 +114,11 @@ script-leaves :
 script-leaves group request files =
     let gid = gid_part group (given_gid request) (group_named group files)
     in let name = name_part group (value_of (codes "n") request)
-    in followed-leaves (hash_part group request files) (followed_by gid (followed_by name no_edits))
+    in leaves-composed.both (hash_part group request files) (followed_by gid (followed_by name no_edits))
     (hash-quiet group request files).ranges
-    (followed-leaves gid (followed_by name no_edits)
+    (leaves-composed.both gid (followed_by name no_edits)
     (gid-leaves group (given_gid request) (group_named group files))
-    (followed-leaves name no_edits (name-leaves group (value_of (codes "n") request)) none-leaves))
+    (leaves-composed.both name no_edits (name-leaves group (value_of (codes "n") request)) leaves-composed.none))
 
 -- ---- The IDs
 

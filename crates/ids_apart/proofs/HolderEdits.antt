@@ -1,14 +1,15 @@
 -- Edits of a table after which no more records pass a test (`AddsNone`): those after one another (`edits-add-none`), one
--- that makes one record of each (`each-adds-none`), one that drops some (`drop-adds-none`), and a sort (`sort-adds-none`).
+-- that makes one record of each (`each-adds-none`), and those that give no ID (`kept-add-none`).
 -- What may come beside is one that passes where none did (`EditsMeetNoMore`).
-use Rattle.std.proofs.Common.{◌≡◌, ℕ, ◌≤◌, max, Bool, true, false, List, [], ◌∷◌, ◌++◌, sym, subst, arith}
-use Rattle.std.specs.Prelude.{cond, count_by, fold, if◌then◌else◌}
+use Rattle.std.proofs.Common.{◌≡◌, ◌≤◌, max, Bool, true, List, [], ◌∷◌, ◌++◌, sym, ◌∙◌, subst, arith}
+use Rattle.std.specs.Prelude.{cond, count_by, fold}
 use Rattle.std.specs.List.{AllByRecursion}
 use Rattle.std.proofs.lemmas.List.Sums.{fold-append}
 use Rattle.account_model.specs.Format.{Format}
-use Rattle.account_model.specs.Edits.{Edit, each, drop_where}
-use Rattle.account_model.specs.Edits.Edit.{Arrange}
+use Rattle.account_model.specs.Edits.{Edit, each}
+use Rattle.account_model.specs.Edits.Edit.{Become, Arrange}
 use Rattle.account_model.specs.RecordEdits.{records_edited}
+use Rattle.account_model.proofs.KeptIds.{KeepsId, LeavesId}
 use Rattle.ids_apart.proofs.Counts.{cond-le, count-becomes, count-more, count-sorted}
 
 -- whatever the records are, no more pass after the edit
@@ -68,18 +69,27 @@ module _ {X : Type 0} (format : Format X) (test : X → Bool) where
   each-adds-none f only xs = count-becomes test (λ x. f x ∷ [])
       (λ x. omega (arith, count-more test (f x) [], cond-le (test (f x)) (test x) (only x))) xs
 
-  -- one record, which may be dropped
-  dropped :
-      (x : X) (drops : Bool)
-      → count_by test (if drops then [] else x ∷ []) ≤ cond (test x) 1 0
-  dropped x true = omega arith
-  dropped x false = omega (arith, count-more test x [])
+  module _ {I : Type 0} (id : X → I) (by : (x y : X) → id x ≡ id y → test x ≡ test y) where
+    -- what is left of a record passes only where it did
+    left-few :
+        (x : X) (news : List X) → LeavesId id x news → count_by test news ≤ cond (test x) 1 0
+    left-few x [] leaves = omega arith
+    left-few x (y ∷ []) leaves =
+        omega (
+          arith,
+          count-more test y [],
+          cond-le (test y) (test x) (λ passes. sym (by y x leaves) ∙ passes),
+        )
+    left-few x (y ∷ z ∷ rest) leaves = absurd leaves
 
-  -- some records are dropped
-  pub drop-adds-none : (drops : X → Bool) → AddsNone format test (drop_where drops)
-  drop-adds-none drops xs = count-becomes test (λ x. if drops x then [] else x ∷ [])
-      (λ x. dropped x (drops x)) xs
-
-  -- the records are sorted
-  pub sort-adds-none : (key : X → ℕ) → AddsNone format test (Arrange key)
-  sort-adds-none key xs = omega (arith, count-sorted test key xs)
+    -- edits that give no ID, where the test is of the ID alone
+    pub kept-add-none :
+        (edits : List (Edit X))
+        → AllByRecursion (KeepsId id) edits
+        → AllByRecursion (AddsNone format test) edits
+    kept-add-none [] keep = tt
+    kept-add-none (Become f ∷ edits) keep =
+        (count-becomes test f (λ x. left-few x (f x) (keep.0 x)), kept-add-none edits keep.1)
+    kept-add-none (Arrange key ∷ edits) keep =
+        ((λ xs. omega (arith, count-sorted test key xs)), kept-add-none edits keep.1)
+    kept-add-none (edit ∷ edits) keep = absurd keep.0

@@ -1,22 +1,22 @@
--- What a script keeps apart, table by table (`KeepsApart`). A script after whose edits no more records have an ID, whatever
--- the records are (`IsGentle`), keeps all (`gentle-apart`).
-use Rattle.std.proofs.Common.{◌≡◌, ℕ, ◌≤◌, max, Bool, false, List, sym, subst, arith}
-use Rattle.std.specs.Prelude.{⊤, Option, Some, None, count_by}
+-- What a script keeps apart, table by table (`KeepsApart`). A script that gives no ID keeps all (`kept-apart`).
+use Rattle.std.proofs.Common.{◌≡◌, ℕ, ◌+◌, ◌-◌, ◌≤◌, max, Bool, false, ◌&&◌, List, ap, sym, subst, arith}
+use Rattle.std.specs.Prelude.{⊤, Option, Some, None, count_by, nat_le, ◌==◌}
 use Rattle.std.specs.List.{AllByRecursion}
 use Rattle.acct_text.specs.declared.files.Files.{Files}
 use Rattle.account_model.specs.declared.tool.Tool.{Tool}
 use Rattle.account_model.specs.declared.records.PasswdRecord.{PasswdRecord}
 use Rattle.account_model.specs.declared.records.GroupRecord.{GroupRecord}
+use Rattle.account_model.specs.declared.records.SubidRecord.{SubidRecord}
 use Rattle.account_model.specs.Format.{Format}
 use Rattle.account_model.specs.Edits.{Edit}
 use Rattle.account_model.specs.Records.{passwd_format, group_format, subid_format}
 use Rattle.account_model.specs.RecordEdits.{IsWrittenEdit}
 use Rattle.account_model.specs.Request.{Request}
-use Rattle.account_model.specs.Tables.{Script, no_edits, followed_by, table_records, table_after}
+use Rattle.account_model.specs.Tables.{Script, table_records, table_after}
 use Rattle.account_model.specs.LineLaws.{EditsAreOfRecords}
-use Rattle.account_model.proofs.ListLaws.{all-append}
+use Rattle.account_model.proofs.KeptIds.{KeepIds, numbers_of}
 use Rattle.ids_apart.specs.Holders.{has_number, shares_uid_by, shares_gid_by}
-use Rattle.ids_apart.proofs.HolderEdits.{AddsNone, EditsMeetNoMore, none-meets}
+use Rattle.ids_apart.proofs.HolderEdits.{AddsNone, EditsMeetNoMore, kept-add-none, none-meets}
 use Rattle.ids_apart.proofs.Keys.{has_key}
 
 -- the UID of a user
@@ -71,36 +71,7 @@ table-meets {X} format test (Some bytes) edits edited written stays =
     ≤ max 1 (count_by test (table_records format (Some bytes))))
     (sym (edited edits bytes written)) stays
 
--- ---- Gentle scripts
-
--- after each edit no more records have an ID, whatever the records are
-pub record IsGentle (script : Script) : Type 0 where
-  pub passwd : (uid : ℕ)
-      → AllByRecursion (AddsNone passwd_format (has_key uid_key uid)) script.passwd
-  pub group : (gid : ℕ)
-      → AllByRecursion (AddsNone group_format (has_key gid_key gid)) script.group
-  pub subuid : (number : ℕ)
-      → AllByRecursion (AddsNone subid_format (has_number number)) script.subuid
-  pub subgid : (number : ℕ)
-      → AllByRecursion (AddsNone subid_format (has_number number)) script.subgid
-
--- no edits
-pub none-gentle : IsGentle no_edits
-none-gentle =
-    record { passwd = λ uid. tt; group = λ gid. tt; subuid = λ n. tt; subgid = λ n. tt }
-
--- two scripts
-pub followed-gentle :
-    (first second : Script)
-    → IsGentle first
-    → IsGentle second
-    → IsGentle (followed_by first second)
-followed-gentle first second one other = record {
-  passwd = λ n. all-append _ first.passwd second.passwd (one.passwd n) (other.passwd n);
-  group = λ n. all-append _ first.group second.group (one.group n) (other.group n);
-  subuid = λ n. all-append _ first.subuid second.subuid (one.subuid n) (other.subuid n);
-  subgid = λ n. all-append _ first.subgid second.subgid (one.subgid n) (other.subgid n);
-}
+-- ---- Edits that add none
 
 -- such edits of a table
 pub gentle-table :
@@ -112,18 +83,30 @@ gentle-table format test bytes edits add =
     stays-table format test bytes edits
     (none-meets format test edits add (table_records format bytes))
 
--- a gentle script keeps all apart, whatever it is asked for
-pub gentle-apart :
+-- ranges of the same numbers have the same
+same-numbers :
+    (number : ℕ) (range other : SubidRecord)
+    → numbers_of range ≡ numbers_of other
+    → has_number number range ≡ has_number number other
+same-numbers number range other same = ap (λ (numbers : ℕ × ℕ).
+    nat_le numbers.0 number && nat_le number (numbers.0 + numbers.1 - 1)) same
+
+-- a script that gives no ID keeps all apart, whatever it is asked for
+pub kept-apart :
     {tool : Tool} {request : Request} {files : Files} {script : Script}
-    → IsGentle script
+    → KeepIds script
     → KeepsApart tool request files script
-gentle-apart {files = files} {script = script} gentle = record {
+kept-apart {files = files} {script = script} keep = record {
   uids = λ uid shares. gentle-table passwd_format (has_key uid_key uid) files.passwd script.passwd
-      (gentle.passwd uid);
+      (kept-add-none passwd_format (has_key uid_key uid) uid_key
+      (λ user other same. ap (λ id. id == uid) same) script.passwd keep.passwd);
   gids = λ gid shares. gentle-table group_format (has_key gid_key gid) files.group script.group
-      (gentle.group gid);
+      (kept-add-none group_format (has_key gid_key gid) gid_key
+      (λ group other same. ap (λ id. id == gid) same) script.group keep.group);
   subuids = λ n. gentle-table subid_format (has_number n) files.subuid script.subuid
-      (gentle.subuid n);
+      (kept-add-none subid_format (has_number n) numbers_of (same-numbers n) script.subuid
+      keep.subuid);
   subgids = λ n. gentle-table subid_format (has_number n) files.subgid script.subgid
-      (gentle.subgid n);
+      (kept-add-none subid_format (has_number n) numbers_of (same-numbers n) script.subgid
+      keep.subgid);
 }

@@ -9,13 +9,11 @@ mod Shared
 mod Unused
 mod Kept
 mod Quiet
-mod QuietTools
 mod Useradd
 mod Groupadd
 mod Groupmod
 mod UsermodRanges
 mod Usermod
-mod Days
 mod Tools
 pub mod Deeds
 mod Meetings

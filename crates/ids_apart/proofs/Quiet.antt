@@ -1,7 +1,7 @@
 -- Scripts that keep each UID and each GID, and leave all ranges (`IsQuiet`): those of hashes, members and lines on demand,
--- and scripts made of such ones (`order-quiet`). They are gentle (`quiet-gentle`).
-use Rattle.std.proofs.Common.{◌≡◌, ℕ, Bool, true, false, List, [], ◌∷◌, ◌++◌, refl, sym, ◌∙◌, ap, subst}
-use Rattle.std.specs.Prelude.{Option, Some, None, is_some, if◌then◌else◌}
+-- and scripts made of such ones (`quiet-composed`).
+use Rattle.std.proofs.Common.{◌≡◌, ℕ, List, [], ◌++◌, refl, sym, ◌∙◌, ap, subst}
+use Rattle.std.specs.Prelude.{is_some}
 use Rattle.std.specs.List.{AllByRecursion}
 use Rattle.acct_text.specs.declared.files.Files.{Files}
 use Rattle.account_model.specs.declared.records.PasswdRecord.{PasswdRecord}
@@ -10,17 +10,16 @@ use Rattle.account_model.specs.declared.records.SubidRecord.{SubidRecord}
 use Rattle.account_model.specs.Format.{is_named}
 use Rattle.account_model.specs.Edits.{Edit}
 use Rattle.account_model.specs.Records.{passwd_format, group_format, subid_format}
-use Rattle.account_model.specs.Tables.{Script, no_edits, followed_by, in_order}
-use Rattle.account_model.specs.Members.{with_name, without_name, each_members, add_to_group, remove_from_group}
-use Rattle.account_model.specs.Hashes.{elsewhere, lacks_shadow, make_shadow, demand_shadow, each_password, each_user_hash, lacks_gshadow, make_gshadow, demand_gshadow, set_password, write_group_hash, write_administrators, set_group_hash, set_administrators}
+use Rattle.account_model.specs.Tables.{Script, no_edits}
+use Rattle.account_model.specs.Members.{with_name, each_members, add_to_group}
+use Rattle.account_model.specs.Hashes.{elsewhere, lacks_shadow, make_shadow, demand_shadow, each_password, each_user_hash, lacks_gshadow, make_gshadow, demand_gshadow, set_password, write_group_hash, set_group_hash}
 use Rattle.account_model.specs.Users.{find_user, group_named}
-use Rattle.account_model.specs.Request.{Request, has_option, value_of}
-use Rattle.account_model.specs.Action.{with_option, with_flag}
+use Rattle.account_model.proofs.ComposedScripts.{IsComposed, either-holds, some-holds}
 use Rattle.account_model.proofs.ListLaws.{all-append}
 use Rattle.ids_apart.specs.Holders.{has_number}
 use Rattle.ids_apart.proofs.HolderEdits.{AddsNone}
-use Rattle.ids_apart.proofs.Keys.{KeepsKeys, where-keys, all-keys-keep}
-use Rattle.ids_apart.proofs.Kept.{uid_key, gid_key, IsGentle}
+use Rattle.ids_apart.proofs.Keys.{KeepsKeys, where-keys}
+use Rattle.ids_apart.proofs.Kept.{uid_key, gid_key}
 
 -- no edit of subuid and subgid
 pub record LeavesRanges (script : Script) : Type 0 where
@@ -36,78 +35,29 @@ pub record IsQuiet (script : Script) : Type 0 where
 -- ---- Scripts together
 
 -- two lists that are empty
-pub both-empty : {X : Type 0} (a b : List X) → a ≡ [] → b ≡ [] → a ++ b ≡ []
+both-empty : {X : Type 0} (a b : List X) → a ≡ [] → b ≡ [] → a ++ b ≡ []
 both-empty a b no_a no_b = ap (λ front. front ++ b) no_a ∙ no_b
 
--- no edits
-pub none-leaves : LeavesRanges no_edits
-none-leaves = record { subuid = refl; subgid = refl }
-
--- two scripts
-pub followed-leaves :
-    (first second : Script)
-    → LeavesRanges first
-    → LeavesRanges second
-    → LeavesRanges (followed_by first second)
-followed-leaves first second one other = record {
-  subuid = both-empty first.subuid second.subuid one.subuid other.subuid;
-  subgid = both-empty first.subgid second.subgid one.subgid other.subgid;
+-- no edit leaves the ranges, and so do two scripts
+pub leaves-composed : IsComposed LeavesRanges
+leaves-composed = record {
+  none = record { subuid = refl; subgid = refl };
+  both = λ first second one other. record {
+    subuid = both-empty first.subuid second.subuid one.subuid other.subuid;
+    subgid = both-empty first.subgid second.subgid one.subgid other.subgid;
+  };
 }
 
--- no edits
-pub none-quiet : IsQuiet no_edits
-none-quiet = record { passwd = tt; group = tt; ranges = none-leaves }
-
--- two scripts
-pub followed-quiet :
-    (first second : Script)
-    → IsQuiet first
-    → IsQuiet second
-    → IsQuiet (followed_by first second)
-followed-quiet first second one other = record {
-  passwd = all-append _ first.passwd second.passwd one.passwd other.passwd;
-  group = all-append _ first.group second.group one.group other.group;
-  ranges = followed-leaves first second one.ranges other.ranges;
+-- no edits are quiet, and so are two scripts
+pub quiet-composed : IsComposed IsQuiet
+quiet-composed = record {
+  none = record { passwd = tt; group = tt; ranges = leaves-composed.none };
+  both = λ first second one other. record {
+    passwd = all-append _ first.passwd second.passwd one.passwd other.passwd;
+    group = all-append _ first.group second.group one.group other.group;
+    ranges = leaves-composed.both first second one.ranges other.ranges;
+  };
 }
-
--- scripts in their order
-pub order-quiet : (scripts : List Script) → AllByRecursion IsQuiet scripts
-    → IsQuiet (in_order scripts)
-order-quiet [] all = none-quiet
-order-quiet (script ∷ rest) all =
-    followed-quiet script (in_order rest) all.0 (order-quiet rest all.1)
-
--- the script of a value that may be there
-pub some-quiet :
-    {V : Type 0} (edits : V → Script) (given : Option V)
-    → ((value : V) → IsQuiet (edits value))
-    → IsQuiet (elim given [ None ↦ no_edits | Some value ↦ edits value ])
-some-quiet edits None each = none-quiet
-some-quiet edits (Some value) each = each value
-
--- the script of an option
-pub option-quiet :
-    (letter : List ℕ) (request : Request) (edits : List ℕ → Script)
-    → ((value : List ℕ) → IsQuiet (edits value))
-    → IsQuiet (with_option letter request edits)
-option-quiet letter request edits each = some-quiet edits (value_of letter request) each
-
--- one of two scripts
-pub either-quiet :
-    (test : Bool) (one other : Script)
-    → IsQuiet one
-    → IsQuiet other
-    → IsQuiet (if test then one else other)
-either-quiet true one other is also = is
-either-quiet false one other is also = also
-
--- the script of a flag
-pub flag-quiet :
-    (letter : List ℕ) (request : Request) (script : Script)
-    → IsQuiet script
-    → IsQuiet (with_flag letter request script)
-flag-quiet letter request script is =
-    either-quiet (has_option letter request) script no_edits is none-quiet
 
 -- no edits of ranges
 pub leaves-gentle :
@@ -117,15 +67,6 @@ pub leaves-gentle :
     → AllByRecursion (AddsNone subid_format (has_number number)) edits
 leaves-gentle edits none number =
     subst (AllByRecursion (AddsNone subid_format (has_number number))) (sym none) tt
-
--- a quiet script is gentle
-pub quiet-gentle : (script : Script) → IsQuiet script → IsGentle script
-quiet-gentle script quiet = record {
-  passwd = λ uid. all-keys-keep passwd_format uid_key uid script.passwd quiet.passwd;
-  group = λ gid. all-keys-keep group_format gid_key gid script.group quiet.group;
-  subuid = leaves-gentle script.subuid quiet.ranges.subuid;
-  subgid = leaves-gentle script.subgid quiet.ranges.subgid;
-}
 
 -- ---- Members
 
@@ -146,10 +87,6 @@ members-quiet group f = record {
 pub add-to-group-quiet : (group user : List ℕ) → IsQuiet (add_to_group group user)
 add-to-group-quiet group user = members-quiet group (with_name user)
 
--- a user leaves it
-pub remove-from-group-quiet : (group user : List ℕ) → IsQuiet (remove_from_group group user)
-remove-from-group-quiet group user = members-quiet group (without_name user)
-
 -- ---- The hashes of users
 
 -- a password field that becomes another
@@ -168,13 +105,14 @@ make-shadow-quiet user = record {
 
 -- the line of shadow on demand
 pub demand-shadow-quiet : (name : List ℕ) (files : Files) → IsQuiet (demand_shadow name files)
-demand-shadow-quiet name files = either-quiet (lacks_shadow name files) _ no_edits
-    (some-quiet make_shadow (find_user name files) make-shadow-quiet) none-quiet
+demand-shadow-quiet name files = either-holds quiet-composed (lacks_shadow name files) _ no_edits
+    (some-holds quiet-composed make_shadow (find_user name files)
+    (λ user found. make-shadow-quiet user)) quiet-composed.none
 
 -- the hash of a user
 pub user-hash-quiet :
     (name : List ℕ) (f : List ℕ → List ℕ) (files : Files) → IsQuiet (each_user_hash name f files)
-user-hash-quiet name f files = either-quiet (is_some files.shadow) _ _
+user-hash-quiet name f files = either-holds quiet-composed (is_some files.shadow) _ _
     (record { passwd = tt; group = tt; ranges = record { subuid = refl; subgid = refl } })
     (record {
       passwd = (password-keys name f, tt);
@@ -200,28 +138,20 @@ make-gshadow-quiet group = record {
 
 -- the line of gshadow on demand
 demand-gshadow-quiet : (name : List ℕ) (files : Files) → IsQuiet (demand_gshadow name files)
-demand-gshadow-quiet name files = either-quiet (lacks_gshadow name files) _ no_edits
-    (some-quiet make_gshadow (group_named name files) make-gshadow-quiet) none-quiet
+demand-gshadow-quiet name files = either-holds quiet-composed (lacks_gshadow name files) _ no_edits
+    (some-holds quiet-composed make_gshadow (group_named name files)
+    (λ group found. make-gshadow-quiet group)) quiet-composed.none
 
 -- the hash of a group
 pub group-hash-quiet :
     (name hash : List ℕ) (files : Files) → IsQuiet (set_group_hash name hash files)
 group-hash-quiet name hash files =
-    followed-quiet (demand_gshadow name files) (write_group_hash name hash files)
+    quiet-composed.both (demand_gshadow name files) (write_group_hash name hash files)
     (demand-gshadow-quiet name files)
-    (either-quiet (is_some files.gshadow) _ _
+    (either-holds quiet-composed (is_some files.gshadow) _ _
     (record { passwd = tt; group = tt; ranges = record { subuid = refl; subgid = refl } })
     (record {
       passwd = tt;
       group = (group-password-keys name hash, tt);
       ranges = record { subuid = refl; subgid = refl };
     }))
-
--- the administrators of a group
-pub administrators-quiet :
-    (name : List ℕ) (administrators : List (List ℕ)) (files : Files)
-    → IsQuiet (set_administrators name administrators files)
-administrators-quiet name administrators files =
-    followed-quiet (demand_gshadow name files) (write_administrators name administrators)
-    (demand-gshadow-quiet name files)
-    (record { passwd = tt; group = tt; ranges = record { subuid = refl; subgid = refl } })

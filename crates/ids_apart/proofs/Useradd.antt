@@ -38,10 +38,12 @@ use Rattle.ids_apart.proofs.HolderEdits.{AddsNone, EditsMeetNoMore, behind-meets
 use Rattle.ids_apart.proofs.Keys.{KeepsKeys, all-keys-keep, has_key}
 use Rattle.ids_apart.proofs.Numbers.{number-in, unmet-count}
 use Rattle.ids_apart.proofs.Shared.{unshared}
-use Rattle.ids_apart.proofs.Kept.{uid_key, gid_key, KeepsApart, stays-table, gentle-apart, none-gentle}
+use Rattle.ids_apart.proofs.Kept.{uid_key, gid_key, KeepsApart, stays-table, kept-apart}
 use Rattle.ids_apart.proofs.Refusals.{behind-none}
 use Rattle.ids_apart.proofs.Unused.{chosen-unused, refuse-fails, push-keeps}
-use Rattle.ids_apart.proofs.Quiet.{LeavesRanges, IsQuiet, none-leaves, order-quiet, add-to-group-quiet}
+use Rattle.account_model.proofs.ComposedScripts.{all-hold, either-holds}
+use Rattle.account_model.proofs.KeptIds.{keep-composed}
+use Rattle.ids_apart.proofs.Quiet.{LeavesRanges, IsQuiet, leaves-composed, quiet-composed, add-to-group-quiet}
 
 -- ---- The ranges
 
@@ -93,14 +95,6 @@ allotted-stays number request uid ids =
 
 -- ---- The other edits
 
--- the user's own group leaves ranges
-own-leaves :
-    (own : Script) (makes : Bool)
-    → LeavesRanges own
-    → LeavesRanges (if makes then own else no_edits)
-own-leaves own true leaves = leaves
-own-leaves own false leaves = none-leaves
-
 -- the user joins groups
 joined-quiet :
     (user : List ℕ) (groups : List GroupRecord)
@@ -111,7 +105,7 @@ joined-quiet user (group ∷ groups) =
 
 join-quiet : (request : Request) (files : Files) → IsQuiet (join_groups request files)
 join-quiet request files =
-    order-quiet (map (λ group. add_to_group group.name (operand request))
+    all-hold quiet-composed (map (λ group. add_to_group group.name (operand request))
     (given_groups request files))
     (joined-quiet (operand request) (given_groups request files))
 
@@ -223,9 +217,9 @@ module _ (request : Request) (files : Files) (settings : List Setting) (day uid 
 
   -- the own group leaves ranges
   own-ranges : LeavesRanges own
-  own-ranges = own-leaves (add_group (operand request) locked gid files)
-      (makes_group request settings)
-      (record { subuid = refl; subgid = refl })
+  own-ranges = either-holds leaves-composed (makes_group request settings)
+      (add_group (operand request) locked gid files) no_edits
+      (record { subuid = refl; subgid = refl }) leaves-composed.none
 
   -- the users, with one more
   add-users :
@@ -308,9 +302,9 @@ script-apart :
     → is_used (used_gids files) id ≡ false)
     → KeepsApart Useradd request files (useradd_script request files (plan_of request files settings)
     (new_shadow request settings day) uid gid)
-script-apart request files settings day None gid unused_uid unused_gid = gentle-apart none-gentle
+script-apart request files settings day None gid unused_uid unused_gid = kept-apart keep-composed.none
 script-apart request files settings day (Some uid) None unused_uid unused_gid =
-    gentle-apart none-gentle
+    kept-apart keep-composed.none
 script-apart request files settings day (Some uid) (Some gid) unused_uid unused_gid =
     add-apart request files settings day uid gid (unused_uid uid refl) (unused_gid gid refl)
 

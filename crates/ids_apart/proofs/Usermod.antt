@@ -30,6 +30,7 @@ use Rattle.account_model.proofs.SameLaws.{passwd-tells}
 use Rattle.account_model.proofs.UsermodRangeScripts.{values-ordered, added-ordered}
 use Rattle.account_model.proofs.ListLaws.{all-append}
 use Rattle.ids_apart.specs.Holders.{has_number, is_given}
+use Rattle.account_model.proofs.ComposedScripts.{all-hold, either-holds}
 use Rattle.ids_apart.proofs.HolderEdits.{AddsNone, EditsMeetNoMore, none-meets}
 use Rattle.ids_apart.proofs.Keys.{has_key, each-keep, where-keep, all-keys-keep}
 use Rattle.ids_apart.proofs.Kept.{uid_key, gid_key, TableStays, KeepsApart, stays-table, gentle-table}
@@ -37,12 +38,12 @@ use Rattle.ids_apart.proofs.NewKeys.{IsFreeKey, set-meets}
 use Rattle.ids_apart.proofs.Refusals.{all-none, behind-none, map-none}
 use Rattle.ids_apart.proofs.Shared.{unshared}
 use Rattle.ids_apart.proofs.Unused.{refuse-fails, unused-count}
-use Rattle.ids_apart.proofs.Quiet.{IsQuiet, none-quiet, order-quiet, either-quiet, demand-shadow-quiet, user-hash-quiet}
+use Rattle.ids_apart.proofs.Quiet.{IsQuiet, quiet-composed, demand-shadow-quiet, user-hash-quiet}
 use Rattle.ids_apart.proofs.UsermodRanges.{ranges-stay}
 
 -- the hash keeps names and IDs
 hash-quiet : (request : Request) (files : Files) → IsQuiet (hash_script request files)
-hash-quiet request files = order-quiet
+hash-quiet request files = all-hold quiet-composed
     ((if sets_hash request || sets_aging request
     then demand_shadow (operand request) files
     else no_edits)
@@ -50,13 +51,13 @@ hash-quiet request files = order-quiet
     then each_user_hash (operand request) (hash_after request) files
     else no_edits)
     ∷ []) (
-      either-quiet (sets_hash request || sets_aging request)
+      either-holds quiet-composed (sets_hash request || sets_aging request)
           (demand_shadow (operand request) files) no_edits
-          (demand-shadow-quiet (operand request) files) none-quiet,
+          (demand-shadow-quiet (operand request) files) quiet-composed.none,
       (
-        either-quiet (sets_hash request)
+        either-holds quiet-composed (sets_hash request)
             (each_user_hash (operand request) (hash_after request) files) no_edits
-            (user-hash-quiet (operand request) (hash_after request) files) none-quiet,
+            (user-hash-quiet (operand request) (hash_after request) files) quiet-composed.none,
         tt,
       ),
     )

@@ -1,53 +1,30 @@
 -- Claim: an answer that is a change has status 0 (`changes-succeed`). Way: what a tool does has
--- status 0, or edits nothing (`is-plain`); without edits all files stay, which is no change. What the
+-- status 0, or edits nothing (`plain` of `LawfulTool`); without edits all files stay, which is no change. What the
 -- lines of a batch write has status 0 (`batch-zero`).
-use Rattle.std.proofs.Common.{◌≡◌, ◌⊎◌, inl, inr, refl, sym, ap, ◌∙◌, ℕ, Bool, true, false, List, []}
-use Rattle.std.specs.Prelude.{◌∷◌, ⊤, codes, Result, Option, Some, None, unwrap_or, if◌then◌else◌, Ok, Err}
+use Rattle.std.proofs.Common.{◌≡◌, inl, inr, refl, sym, ap, ◌∙◌, ℕ, Bool, true, false, List, []}
+use Rattle.std.specs.Prelude.{◌∷◌, ⊤, Result, Option, Some, None, unwrap_or, if◌then◌else◌, Ok, Err}
 use Rattle.std.proofs.lemmas.Bool.{true≢false}
 use Rattle.std.proofs.lemmas.Slice.Eq.{bytes_eq-Decides}
 use Rattle.acct_text.specs.Bytes.{Bytes}
 use Rattle.acct_text.specs.Contents.{same_content}
 use Rattle.acct_text.specs.declared.files.Files.{Files}
 use Rattle.account_model.specs.declared.tool.Tool.{Tool}
-use Rattle.account_model.specs.declared.tool.Tool.TheVariants.{Groupadd, Chage, Pwck, Grpck, Batch}
+use Rattle.account_model.specs.declared.tool.Tool.TheVariants.{Batch}
 use Rattle.account_model.specs.declared.refusal.Refusal.{Refusal}
 use Rattle.account_model.specs.Text.{first_some}
 use Rattle.account_model.specs.Settings.{Setting, settings_of}
 use Rattle.account_model.specs.BatchLines.{LineRequest, line_requests}
-use Rattle.account_model.specs.Request.{Request, has_option}
+use Rattle.account_model.specs.Request.{Request}
 use Rattle.account_model.specs.Words.{is_batch}
-use Rattle.account_model.specs.Tables.{Script, no_edits, files_after}
-use Rattle.account_model.specs.Action.{Action, Made, changes, made_by, outcome_of, multiple_entries}
+use Rattle.account_model.specs.Tables.{Script, files_after}
+use Rattle.account_model.specs.Action.{Action, Made, made_by, outcome_of, multiple_entries}
 use Rattle.account_model.specs.Batch.{LineRefusal, Written, batch, before_others, ensures, line_outcome, with_rest, written_by}
-use Rattle.account_model.specs.Pwck.{pwck_sort, pwck_report}
-use Rattle.account_model.specs.Grpck.{grpck_sort, grpck_report}
-use Rattle.account_model.specs.Change.{action_by, action_of}
+use Rattle.account_model.specs.Change.{action_of}
 use Rattle.account_model.specs.Answer.{Answer, FileProblem, Same, Changed, new_problem, files_problem, files_eq, answer_lines, answer_outcome, answer_under, succeeding, unusable}
+use Rattle.account_model.proofs.LawfulTools.{IsPlain}
 use Rattle.account_model.proofs.NoEdits.{files-stay}
+use Rattle.account_model.proofs.ToolLaws.{meaning}
 use Rattle.suite_answers.specs.Changes.{ChangesSucceed}
-
--- ---- What a tool does
-
--- it has status 0, or edits nothing
-abbrev IsPlain : Action → Type 0
-IsPlain action = (action.status ≡ 0) ⊎ (action.script ≡ no_edits)
-
--- so it is by either way of a choice
-by-choice : (test : Bool) (one other : Action) → IsPlain one → IsPlain other →
-    IsPlain (if test then one else other)
-by-choice true one other is also = is
-by-choice false one other is also = also
-
--- so it is for each tool
-is-plain : (tool : Tool) (request : Request) (input : Bytes) (day : ℕ) (files : Files)
-    (settings : List Setting) → IsPlain (action_by tool request input day files settings)
-is-plain Groupadd request input day files settings = by-choice _ _ _ (inl refl) (inl refl)
-is-plain Chage request input day files settings = by-choice _ _ _ (inl refl) (inl refl)
-is-plain Pwck request input day files settings = by-choice (has_option (codes "s") request)
-    (changes [] (pwck_sort files)) (pwck_report request files day) (inl refl) (inr refl)
-is-plain Grpck request input day files settings = by-choice (has_option (codes "s") request)
-    (changes [] (grpck_sort files)) (grpck_report files) (inl refl) (inr refl)
-is-plain tool request input day files settings = inl refl
 
 -- ---- Files that stay
 
@@ -57,7 +34,7 @@ same-table None = refl
 same-table (Some bytes) = (bytes_eq-Decides bytes bytes).1 refl
 
 -- and so are all files
-same-files : (files : Files) → files_eq files files ≡ true
+pub same-files : (files : Files) → files_eq files files ≡ true
 same-files files = simp same-table refl
 
 -- ---- The answer
@@ -157,7 +134,7 @@ under-succeeds request input day old settings false new changed =
     outcome-succeeds request.tool (action_of request input day old settings) old
     (first_some (action_of request input day old settings).refusals)
     (multiple_entries (action_of request input day old settings).script old)
-    (is-plain request.tool request input day old settings) new changed
+    (meaning request.tool request input day old settings).plain new changed
 
 -- an answer, by the problem of the files
 answer-succeeds : (request : Request) (input : Bytes) (day : ℕ) (old : Files)

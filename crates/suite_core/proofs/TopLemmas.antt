@@ -2,7 +2,7 @@
 -- have no fault (`no-fault`) and one request (`one-request`).
 use Rattle.std.proofs.Common.{◌≡◌, refl, sym, ap, ◌∙◌, ◌∷◌, List, Some, None}
 use Rattle.account_model.specs.declared.tool.Tool.{Tool}
-use Rattle.account_model.specs.declared.tool.Tool.TheVariants.{Useradd, Usermod, Userdel, Groupadd, Groupmod, Groupdel, Gpasswd, Chage, Chpasswd, Pwck, Grpck, Getsubids, Batch}
+use Rattle.account_model.specs.declared.tool.Tool.TheVariants.{Batch}
 use Rattle.account_model.specs.declared.word_fault.WordFault.{WordFault}
 use Rattle.account_model.specs.Words.{tool_name, Asks, fault}
 use Rattle.account_model.specs.Options.{Word}
@@ -12,19 +12,8 @@ use Rattle.suite_course.specs.Top.{named_tool}
 
 -- the name of a tool names it
 named : (tool : Tool) (arguments : List Word) → named_tool (tool_name tool ∷ arguments) ≡ Some tool
-named Useradd arguments = refl
-named Usermod arguments = refl
-named Userdel arguments = refl
-named Groupadd arguments = refl
-named Groupmod arguments = refl
-named Groupdel arguments = refl
-named Gpasswd arguments = refl
-named Chage arguments = refl
-named Chpasswd arguments = refl
-named Pwck arguments = refl
-named Grpck arguments = refl
-named Getsubids arguments = refl
 named Batch arguments = refl
+named tool arguments = refl
 
 -- words that ask for a request name its tool
 pub named-asked : (words : List Word) (request : Request) → Asks words request →

@@ -2,7 +2,7 @@
 -- so those of commands one after another make their fold (`fold-made`), and spare what these don't name (`fold-spares`); the
 -- settled files of a lawful history are that fold.
 use Rattle.std.specs.List.{AllByRecursion}
-use Rattle.std.proofs.Common.{◌≡◌, ◌≤◌, false, List, [], ◌∷◌, refl, sym, subst, Option, Some, None, option_map, unwrap_or, Result, Ok, Err}
+use Rattle.std.proofs.Common.{◌≡◌, ◌≤◌, Bool, true, false, true≢false, List, [], ◌∷◌, refl, sym, subst, Option, Some, None, option_map, unwrap_or, Result, Ok, Err}
 use Rattle.acct_text.specs.Bytes.{Bytes}
 use Rattle.acct_text.specs.Contents.{Contents}
 use Rattle.acct_text.specs.Files.{table_of}
@@ -12,17 +12,16 @@ use Rattle.acct_outside.specs.Folder.{settings_file}
 use Rattle.acct_outside.specs.History.{after}
 use Rattle.account_model.specs.declared.word_fault.WordFault.{WordFault}
 use Rattle.account_model.specs.Answer.{deed}
-use Rattle.account_model.specs.DeedLines.{DeedsKeepOrder, DeedsLeaveUntouched, KeepOrder, edits_of_deed, is_sort}
-use Rattle.account_model.specs.NamedLines.{Named, named_by_both, named_by_deed, names_nothing}
+use Rattle.account_model.specs.DeedLines.{DeedsLeaveUntouched, edits_of_deed, is_sort}
+use Rattle.account_model.specs.NamedLines.{Named, named_by_deed, names_nothing}
 use Rattle.account_model.specs.Settings.{settings_of}
 use Rattle.account_model.specs.Records.{greatest_days}
 use Rattle.account_model.specs.Request.{Request}
 use Rattle.account_model.specs.Tables.{Script, files_after, no_edits}
 use Rattle.account_model.specs.Words.{is_batch, request_of}
-use Rattle.account_model.proofs.NamedDeeds.{back-spares, deed-spares, front-spares}
-use Rattle.account_model.proofs.NamedLaws.{SparesUnnamed, both-spare, none-spare, spares-untouched}
+use Rattle.account_model.proofs.NamedDeeds.{both-spare, deed-spares}
+use Rattle.account_model.proofs.NamedLaws.{SparesUnnamed, spares-composed, spares-order, spares-untouched}
 use Rattle.account_model.proofs.AsksLaws.{asks_iff_read}
-use Rattle.account_model.proofs.OrderScripts.{both-order, none-order}
 use Rattle.account_model.proofs.UnnamedLines.{files-leave}
 use Rattle.account_model.proofs.UntouchedDeeds.{IsMadeBy, both-made, made-leaves, none-made}
 use Rattle.suite_rules.specs.Deeds.{SuiteDeeds}
@@ -102,10 +101,10 @@ module _ (leave : DeedsLeaveUntouched) where
 made-spares :
     (request : Request) (command : Command) (files : Files) (defs : Option Bytes)
     (made : Option Files)
-    → SparesUnnamed (names_where_made made
+    → SparesUnnamed (is_sort request) (names_where_made made
     (named_by_deed request command.input command.day files defs))
     (edits_where_made made (edits_of_deed request command.input command.day files defs))
-made-spares request command files defs None = none-spare names_nothing
+made-spares request command files defs None = (spares-composed names_nothing).none
 made-spares request command files defs (Some new) =
     deed-spares request command.input command.day files (settings_of (unwrap_or defs []))
     (is_batch request.tool)
@@ -117,87 +116,68 @@ named_by_read read command files defs = elim read [
   | Ok request ↦ named_by_request request command files defs
 ]
 
+-- whether what they ask for sorts
+abbrev sorts_by_read : Result Request WordFault → Bool
+sorts_by_read read = elim read [ Err fault ↦ false | Ok request ↦ is_sort request ]
+
+-- a command that sorts nothing
+read-sorts :
+    (one : Commitment) (read : Result Request WordFault)
+    → request_of one.command.words ≡ read
+    → SortsNothing one
+    → sorts_by_read read ≡ false
+read-sorts one (Err fault) is none = refl
+read-sorts one (Ok request) is none =
+    none request ((asks_iff_read one.command.words request).1 is)
+
 -- the edits of a command spare what it doesn't name
 read-spares :
     (command : Command) (files : Files) (defs : Option Bytes) (read : Result Request WordFault)
-    → SparesUnnamed (named_by_read read command files defs) (edits_by read command files defs)
-read-spares command files defs (Err fault) = none-spare names_nothing
+    → SparesUnnamed (sorts_by_read read) (named_by_read read command files defs)
+    (edits_by read command files defs)
+read-spares command files defs (Err fault) = (spares-composed names_nothing).none
 read-spares command files defs (Ok request) = made-spares request command files defs
     (deed request command.input command.day files defs)
 
--- and so do those of commands one after another
+-- and so do those of commands one after another, which sort nothing where none of these does
 fold-spares :
-    (defs : Option Bytes) (list : List Commitment) (files : Files)
-    → SparesUnnamed (named_by_commands defs list files) (edits_of_commands defs list files)
-fold-spares defs [] files = none-spare names_nothing
-fold-spares defs (one ∷ list) files =
+    {sorts : Bool} (defs : Option Bytes) (list : List Commitment) (files : Files)
+    → (sorts ≡ false → AllByRecursion SortsNothing list)
+    → SparesUnnamed sorts (named_by_commands defs list files) (edits_of_commands defs list files)
+fold-spares defs [] files none = (spares-composed names_nothing).none
+fold-spares defs (one ∷ list) files none =
     let first = edits_of_command one.command files defs
     in let next = files_after first files
-    in let names = named_by_command one.command files defs
-    in let behind = named_by_commands defs list next
-    in both-spare (named_by_both names behind) first (edits_of_commands defs list next)
-    (front-spares names behind first
-    (read-spares one.command files defs (request_of one.command.words)))
-    (back-spares names behind (edits_of_commands defs list next) (fold-spares defs list next))
-
--- ---- The order
-
--- the edits of a deed, if there is one
-made-order :
-    (made : Option Files) (edits : Script) → KeepOrder edits
-    → KeepOrder (edits_where_made made edits)
-made-order None edits keep = none-order
-made-order (Some new) edits keep = keep
-
-module _ (keep : DeedsKeepOrder) where
-  -- the edits of a command that doesn't sort, by what its words ask for
-  read-order :
-      (command : Command) (files : Files) (defs : Option Bytes) (read : Result Request WordFault)
-      → ((request : Request) → read ≡ Ok request → is_sort request ≡ false)
-      → KeepOrder (edits_by read command files defs)
-  read-order command files defs (Err fault) none = none-order
-  read-order command files defs (Ok request) none =
-      made-order (deed request command.input command.day files defs)
-      (edits_of_deed request command.input command.day files defs)
-      (keep request command.input command.day files defs (none request refl))
-
-  -- and those of such commands one after another
-  fold-order :
-      (defs : Option Bytes) (list : List Commitment) (files : Files)
-      → AllByRecursion SortsNothing list
-      → KeepOrder (edits_of_commands defs list files)
-  fold-order defs [] files none = none-order
-  fold-order defs (one ∷ list) files none =
-      let first = edits_of_command one.command files defs
-      in both-order first (edits_of_commands defs list (files_after first files))
-      (read-order one.command files defs (request_of one.command.words)
-      (λ request read. none.0 request ((asks_iff_read one.command.words request).1 read)))
-      (fold-order defs list (files_after first files) none.1)
+    in both-spare (named_by_command one.command files defs) (named_by_commands defs list next)
+    first (edits_of_commands defs list next)
+    (λ asked. read-sorts one (request_of one.command.words) refl (none asked).0) (λ asked. asked)
+    (read-spares one.command files defs (request_of one.command.words))
+    (fold-spares defs list next (λ asked. (none asked).1))
 
 -- ---- The law
 
 -- what commands make leaves what they don't touch, and what they don't name
 by-commands :
-    (keep : DeedsKeepOrder) (defs : Option Bytes) (list : List Commitment) (old new : Files)
+    (defs : Option Bytes) (list : List Commitment) (old new : Files)
     → IsMadeBy (edits_of_commands defs list old) old new
     → AreByCommands defs list old new
-by-commands keep defs list old new made =
+by-commands defs list old new made =
     let edits = edits_of_commands defs list old
     in let named = named_by_commands defs list old
     in let by = made-leaves edits old new made
     in record {
       untouched = by;
       unnamed = files-leave named edits old new
-          (spares-untouched named edits (fold-spares defs list old)) by.leave;
-      order = fold-order keep defs list old;
+          (spares-untouched named edits
+          (fold-spares {sorts = true} defs list old (λ wrong. absurd (true≢false wrong)))) by.leave;
+      order = λ none. spares-order named edits refl (fold-spares defs list old (λ asked. none));
     }
 
 -- the law
-pub untouched-lines-stay :
-    DeedsLeaveUntouched → DeedsKeepOrder → LawfulSettles → UntouchedLinesStay
-untouched-lines-stay leave keep settles = record {
+pub untouched-lines-stay : DeedsLeaveUntouched → LawfulSettles → UntouchedLinesStay
+untouched-lines-stay leave settles = record {
   after_front = λ deeds ours first history front later is in_time.
-      by-commands keep (settings_file first) front (files_of (settled first))
+      by-commands (settings_file first) front (files_of (settled first))
       (files_of (folded deeds first front))
       (fold-made leave deeds ours (settings_file first) front (settled first) in_time);
   at_present = λ deeds ours first history lawful in_time.
@@ -206,7 +186,7 @@ untouched-lines-stay leave keep settles = record {
       in subst (λ (contents : Contents).
       AreByCommands (settings_file first) (committed history) (files_of (settled first))
       (files_of contents)) (sym same)
-      (by-commands keep (settings_file first) (committed history) (files_of (settled first))
+      (by-commands (settings_file first) (committed history) (files_of (settled first))
       (files_of (folded deeds first (committed history)))
       (fold-made leave deeds ours (settings_file first) (committed history) (settled first)
       in_time));

@@ -1,63 +1,38 @@
 -- Claim: the answer to a report is no change, on whatever files (`report-stays`).
--- Way: a report has no edits (`report-unedited`), so its tables stay (`unedited-stays`). Of a tool that can do
--- both, the words ask for the report alone: by their rules pwck and grpck have `-r` or `-s` (`not-sorting`).
+-- Way: a report has no edits (`report` of `LawfulTool`), so its tables stay (`outcome-stays`).
 -- A batch is no report, also where each of its lines asks for one (`report-single`).
-use Rattle.std.proofs.Common.{◌≡◌, refl, sym, ap, ◌∙◌, ◌==◌, ◌||◌, ◌&&◌, not, ℕ, ◌+◌, Bool, true, false, List, [], ◌∷◌, Option, Some, None, Ok, Err, true≢false}
-use Rattle.std.specs.Str.{byte}
-use Rattle.std.specs.Prelude.{codes, cond, find, is_some, if◌then◌else◌, option_map, position, unwrap_or}
+use Rattle.std.proofs.Common.{◌≡◌, refl, sym, ap, ◌∙◌, ℕ, Bool, true, false, List, [], Option, Some, None, Ok, Err, true≢false}
+use Rattle.std.specs.Prelude.{if◌then◌else◌, unwrap_or}
 use Rattle.acct_text.specs.Bytes.{Bytes}
-use Rattle.acct_text.specs.Contents.{same_content}
 use Rattle.acct_text.specs.declared.files.Files.{Files}
 use Rattle.account_model.specs.Tables.{Script, no_edits, files_after}
 use Rattle.account_model.proofs.NoEdits.{files-stay}
-use Rattle.account_model.specs.declared.given.Given.{Given}
+use Rattle.account_model.proofs.ToolLaws.{meaning}
 use Rattle.account_model.specs.declared.tool.Tool.{Tool}
-use Rattle.account_model.specs.declared.tool.Tool.TheVariants.{Chage, Pwck, Grpck, Getsubids, Batch}
+use Rattle.account_model.specs.declared.tool.Tool.TheVariants.{Batch}
 use Rattle.account_model.specs.BatchLines.{line_requests}
-use Rattle.account_model.specs.Options.{Word, is_given, not_both, some_of}
-use Rattle.account_model.specs.Request.{Request, has_option, is_report, reports as is_reporting}
+use Rattle.account_model.specs.Options.{Word}
+use Rattle.account_model.specs.Request.{Request, is_report, reports as is_reporting}
 use Rattle.account_model.specs.Settings.{Setting, settings_of}
-use Rattle.account_model.specs.Words.{Asks, broken_rule, is_batch}
+use Rattle.account_model.specs.Words.{Asks, is_batch}
 use Rattle.account_model.specs.declared.refusal.Refusal.{Refusal}
 use Rattle.account_model.specs.Text.{first_some}
-use Rattle.account_model.specs.Action.{Action, Made, made_by, multiple_entries, outcome_of, changes}
+use Rattle.account_model.specs.Action.{Action, Made, made_by, multiple_entries, outcome_of}
 use Rattle.account_model.specs.Batch.{batch, ensures, written_by}
-use Rattle.account_model.specs.Change.{action_by, action_of}
-use Rattle.account_model.specs.Grpck.{grpck_report, grpck_sort}
-use Rattle.account_model.specs.Pwck.{pwck_report, pwck_sort}
+use Rattle.account_model.specs.Change.{action_of}
 use Rattle.account_model.specs.Answer.{FileProblem, Answer, Same, Changed, answer, answer_lines, answer_outcome, answer_under, answer_written, files_eq, files_problem, new_problem, succeeding, unusable}
-use Rattle.suite_rules.proofs.Changed.{content-differs}
+use Rattle.suite_answers.proofs.ChangeLemmas.{same-files}
 use Rattle.suite_session.specs.Answers.{answer_on}
 use Rattle.suite_session.specs.Deeds.{is_change}
 use Rattle.suite_session.specs.Runner.{Question}
 
 -- ---- An action without edits
 
--- a content is the same as itself
-content-same : (content : Option Bytes) → same_content content content ≡ true
-content-same content = cases (same_content content content) refl
-  where
-    cases : (same : Bool) → same_content content content ≡ same →
-        same_content content content ≡ true
-    cases true is = is
-    cases false is = absurd (content-differs content content is refl)
-
--- so are files
-files-same : (files : Files) → files_eq files files ≡ true
-files-same files = rw (
-  content-same files.passwd,
-  content-same files.shadow,
-  content-same files.group,
-  content-same files.gshadow,
-  content-same files.subuid,
-  content-same files.subgid,
-) refl
-
 -- the tables stay, so the answer is no change
 made-stays : (tool : Tool) (files : Files) (made : Made) → made.files ≡ files →
     is_change (answer_written tool files (written_by tool made)).cause ≡ false
 made-stays tool files made is = cases (new_problem made.files) (files_eq files made.files)
-    (ap (files_eq files) is ∙ files-same files)
+    (ap (files_eq files) is ∙ same-files files)
   where
     cases : (problem : Option FileProblem) (same : Bool) → same ≡ true →
         is_change (elim problem as (λ one. Answer) [
@@ -86,72 +61,6 @@ outcome-stays tool files action none =
 
 -- ---- A report has no edits
 
--- an option is there where it is given
-found-given : (letter : ℕ) (options : List Given) →
-    is_some (find (λ option. option.letter == letter) options) ≡ is_given letter options
-found-given letter [] = refl
-found-given letter (option ∷ rest) = cases (option.letter == letter) (found-given letter rest)
-  where
-    cases : (is : Bool) → is_some (find (λ one. one.letter == letter) rest) ≡ is_given letter rest →
-        is_some (cond is (Some option) (find (λ one. one.letter == letter) rest))
-        ≡ (is || is_given letter rest)
-    cases true same = refl
-    cases false same = same
-
--- of two rules that aren't broken the second is kept
-second-kept : (first second : Bool) →
-    option_map (λ place. place + 1) (position (λ rule. not rule) (first ∷ second ∷ [])) ≡ None →
-    second ≡ true
-second-kept true true unbroken = refl
-second-kept true false unbroken = absurd (cc unbroken)
-second-kept false second unbroken = absurd (cc unbroken)
-
--- where one of two options that clash is given, the other isn't
-other-apart : (given other : Bool) → not (given && other) ≡ true → given ≡ true → other ≡ false
-other-apart true false apart is = refl
-other-apart true true apart is = absurd (true≢false (sym apart))
-other-apart false other apart is = absurd (true≢false (sym is))
-
--- where `-r` is given, `-s` isn't
-not-sorting : (request : Request) →
-    option_map (λ place. place + 1) (position (λ rule. not rule)
-    (some_of (codes "rs") request.options
-    ∷ not_both (byte "r") (byte "s") request.options ∷ [])) ≡ None →
-    has_option (codes "r") request ≡ true → has_option (codes "s") request ≡ false
-not-sorting request unbroken reads = found-given (byte "s") request.options
-    ∙ other-apart (is_given (byte "r") request.options) (is_given (byte "s") request.options)
-    (second-kept (some_of (codes "rs") request.options)
-    (not_both (byte "r") (byte "s") request.options) unbroken)
-    (sym (found-given (byte "r") request.options) ∙ reads)
-
--- an action that sorts or reports reports, where it doesn't sort
-by-sorting : (sorts : Bool) (sorting reporting : Action) → sorts ≡ false →
-    reporting.script ≡ no_edits → (if sorts then sorting else reporting).script ≡ no_edits
-by-sorting false sorting reporting is none = none
-by-sorting true sorting reporting is none = absurd (true≢false is)
-
--- a tool that lists, or else changes, edits nothing where it lists
-by-listing : (lists : Bool) (listing changing : Action) → lists ≡ true →
-    listing.script ≡ no_edits → (if lists then listing else changing).script ≡ no_edits
-by-listing true listing changing is none = none
-by-listing false listing changing is none = absurd (true≢false (sym is))
-
--- a request that a report answers edits nothing, whatever its tool
-tool-unedited : (tool : Tool) (request : Request) (input : Bytes) (day : ℕ) (files : Files)
-    (settings : List Setting) → broken_rule tool request.options ≡ None →
-    is_reporting tool request ≡ true →
-    (action_by tool request input day files settings).script ≡ no_edits
-tool-unedited Pwck request input day files settings unbroken is =
-    by-sorting (has_option (codes "s") request) (changes [] (pwck_sort files))
-    (pwck_report request files day) (not-sorting request unbroken is) refl
-tool-unedited Grpck request input day files settings unbroken is =
-    by-sorting (has_option (codes "s") request) (changes [] (grpck_sort files))
-    (grpck_report files) (not-sorting request unbroken is) refl
-tool-unedited Getsubids request input day files settings unbroken is = refl
-tool-unedited Chage request input day files settings unbroken is =
-    by-listing (has_option (codes "l") request) _ _ is refl
-tool-unedited tool request input day files settings unbroken is = absurd (true≢false (sym is))
-
 -- a batch is no report
 report-single : (tool : Tool) (request : Request) → is_reporting tool request ≡ true →
     is_batch tool ≡ false
@@ -177,7 +86,7 @@ report-stays words request input day files defs asks is = cases (files_problem f
         else answer_outcome request.tool files (outcome_of action files)).cause ≡ false
     under true single = absurd (true≢false single)
     under false single = outcome-stays request.tool files action
-        (tool-unedited request.tool request input day files settings asks.rules is)
+        ((meaning request.tool request input day files settings).report asks.rules is)
 
     cases : (problem : Option FileProblem) →
         is_change (answer_under request input day files settings).cause ≡ false →

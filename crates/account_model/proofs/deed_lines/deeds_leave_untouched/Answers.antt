@@ -1,4 +1,4 @@
-use Rattle.account_model.proofs.OrderTools.{deeds-keep-order}
+use Rattle.account_model.proofs.NamedDeeds.{deeds-keep-order}
 use Rattle.account_model.proofs.UntouchedDeeds.{deeds-leave-untouched}
 use Rattle.account_model.proofs.deed_lines.deeds_leave_untouched.Goals as goal
 
