@@ -15,6 +15,8 @@ pub mod Statuses
 pub mod Users
 pub mod Chage
 pub mod Chpasswd
+pub mod Conversion
+pub mod Passwd
 pub mod Refusals
 pub mod Action
 pub mod Members
