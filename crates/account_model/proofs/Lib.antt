@@ -30,6 +30,8 @@ mod GroupdelRows
 mod GpasswdRows
 mod ChageRows
 mod ChpasswdRows
+mod ConversionRows
+mod PasswdRows
 mod PwckRows
 mod GrpckRows
 mod GetsubidsRows

@@ -1,6 +1,6 @@
 -- pwconv, pwunconv, grpconv and grpunconv (pwconv(8)): the hashes of users move between passwd and shadow, and those of
 -- groups between group and gshadow.
-use Rattle.std.specs.Prelude.{ℕ, true, not, if◌then◌else◌, List, [], ◌∷◌, map, bytes_eq, Option, Some, None, is_none, option_map, unwrap_or}
+use Rattle.std.specs.Prelude.{ℕ, true, not, if◌then◌else◌, List, [], ◌∷◌, map, bytes_eq, Some, None, is_none, option_map, unwrap_or}
 use Rattle.acct_text.specs.declared.files.Files.{Files}
 use Rattle.account_model.specs.declared.records.PasswdRecord.{PasswdRecord}
 use Rattle.account_model.specs.declared.records.ShadowRecord.{ShadowRecord}
