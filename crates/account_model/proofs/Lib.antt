@@ -12,6 +12,10 @@ pub mod MemberLaws
 pub mod SettingBounds
 pub mod GroupToolScripts
 pub mod AgingToolScripts
+pub mod ConversionScripts
+pub mod ConversionLaws
+pub mod GatheredLaws
+pub mod ConversionDeeds
 pub mod GivenFacts
 pub mod UseraddScripts
 pub mod UserdelScripts

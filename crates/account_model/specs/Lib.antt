@@ -16,6 +16,7 @@ pub mod Users
 pub mod Chage
 pub mod Chpasswd
 pub mod Conversion
+pub mod ConversionLaws
 pub mod Passwd
 pub mod Refusals
 pub mod Action

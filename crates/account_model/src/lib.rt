@@ -7,6 +7,7 @@
 #![tactic(auto)]
 
 mod choice_laws;
+mod conversion_laws;
 mod date_laws;
 mod deed_lines;
 mod fault;
@@ -26,6 +27,7 @@ mod word_laws;
 mod words_of;
 
 pub use choice_laws::{ids_are_chosen, ranges_are_found};
+pub use conversion_laws::{conversion_keeps_groups, conversion_keeps_users};
 pub use date_laws::{days_are_counted, days_have_dates};
 pub use deed_lines::{deeds_leave_unnamed, deeds_leave_untouched};
 pub use fault::LineFault;
