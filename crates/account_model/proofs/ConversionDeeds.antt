@@ -1,9 +1,10 @@
 -- Claim: conversion keeps the hash that opens each user and each group (`conversion-keeps-users`,
 -- `conversion-keeps-groups`). Way: the records of the tables that a conversion makes are its edits of the records
 -- (`main-records`, `hash-records`), of which the laws of any accounts hold.
-use Rattle.std.proofs.Common.{◌≡◌, ℕ, ◌≤◌, true, List, [], ◌∷◌, map, refl, sym, ◌∙◌, ap, subst, Ok}
-use Rattle.std.specs.Prelude.{Option, Some, None, flat_map, fold, is_none, if◌then◌else◌}
+use Rattle.std.proofs.Common.{◌≡◌, ℕ, ◌≤◌, List, [], ◌∷◌, map, refl, ◌∙◌, ap, subst, Ok}
+use Rattle.std.specs.Prelude.{Option, Some, None, fold, is_none}
 use Rattle.std.specs.List.{AllByRecursion}
+use Rattle.std.proofs.lemmas.List.Concat.{flat_map_single}
 use Rattle.acct_text.specs.declared.files.Files.{Files}
 use Rattle.account_model.specs.declared.refusal.Refusal.{Refusal}
 use Rattle.account_model.specs.Format.{Format}
@@ -16,12 +17,12 @@ use Rattle.account_model.specs.Text.{first_some}
 use Rattle.account_model.specs.Refusals.{refuse_if}
 use Rattle.account_model.specs.Action.{Made, made_by, outcome_of}
 use Rattle.account_model.specs.Hashes.{elsewhere, gshadow_of}
-use Rattle.account_model.specs.Conversion.{Accounts, users, groups, taken_over, gathered, hidden, with_shown, shown, emptied, take_password, shadow_of, take_group_password, pwconv, pwconv_script, pwunconv, pwunconv_script, grpconv, grpconv_script, grpunconv, grpunconv_script}
+use Rattle.account_model.specs.Conversion.{users, groups, taken_over, gathered, hidden, with_shown, emptied, take_password, shadow_of, take_group_password, pwconv, pwunconv, grpconv, grpunconv}
 use Rattle.account_model.specs.ConversionLaws.{NamesAreDistinct, AreHidden, KeepsHashes, IsGathered, users_of, groups_of, ConversionKeepsUsers, ConversionKeepsGroups}
 use Rattle.account_model.proofs.BatchLaws.{outcome-made}
 use Rattle.account_model.proofs.EditLines.{table-edited}
 use Rattle.account_model.proofs.SameLaws.{passwd-tells, shadow-tells, group-tells, gshadow-tells}
-use Rattle.account_model.proofs.ConversionLaws.{each-one, each-none, shows}
+use Rattle.account_model.proofs.ConversionLaws.{each-none, shows}
 use Rattle.account_model.proofs.GatheredLaws.{gathers}
 use Rattle.account_model.proofs.ConversionScripts.{pwconv-written, pwunconv-written, grpconv-written, grpunconv-written}
 
@@ -38,7 +39,7 @@ module _ {R : Type 0} (format : Format R) (tells : TellsSame format)
   main-records f None written = refl
   main-records f (Some bytes) written =
       table-edited format tells none (each f ∷ []) bytes written
-      ∙ each-one format f (table_records format (Some bytes))
+      ∙ flat_map_single f (table_records format (Some bytes))
 
   -- those of a table that stands
   hash-records :
@@ -76,7 +77,7 @@ users-gathered files settings day made small apart outcome =
     files.shadow _ written.shadow is.passes
     ∙ ap (λ records. fold (records_edited shadow_format) records
     (map (λ m. AddMissing (shadow_of settings day m)) (passwd_records files)))
-    (each-one shadow_format (taken_over users (take_password day) (passwd_records files)) _)))
+    (flat_map_single (taken_over users (take_password day) (passwd_records files)) _)))
 
 -- pwunconv
 users-shown :
@@ -123,7 +124,7 @@ groups-gathered files made apart outcome =
     files.gshadow _ written.gshadow is.passes
     ∙ ap (λ records. fold (records_edited gshadow_format) records
     (map (λ m. AddMissing (gshadow_of m)) (group_records files)))
-    (each-one gshadow_format (taken_over groups take_group_password (group_records files)) _)))
+    (flat_map_single (taken_over groups take_group_password (group_records files)) _)))
 
 -- grpunconv
 groups-shown :

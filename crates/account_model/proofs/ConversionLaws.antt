@@ -1,21 +1,17 @@
 -- Claim: conversion back to the main table keeps the hash that opens each account (`shows`). Way: the table of hashes is
 -- empty then, and each field is the hash (`login-alone`, `login-shown`). Before that, what both ways need of lists of
 -- records: each of records with different names is found by its name (`all-found`).
-use Rattle.std.proofs.Common.{◌≡◌, ◌≢◌, ℕ, suc, ◌≤◌, Bool, true, false, not, List, [], ◌∷◌, ◌++◌, map, refl, sym, ◌∙◌, ap, subst, inl, inr, arith, Ok}
-use Rattle.std.specs.Prelude.{AllPairs, Option, Some, None, bytes_eq, find, flat_map, ⊤, fold, is_some, is_none, option_map, unwrap_or, Decides, if◌then◌else◌}
+use Rattle.std.proofs.Common.{◌≡◌, ◌≢◌, ℕ, suc, Bool, true, false, List, [], ◌∷◌, map, refl, ◌∙◌, ap, inl, inr, arith}
+use Rattle.std.specs.Prelude.{Option, Some, None, bytes_eq, flat_map, ⊤, is_some, if◌then◌else◌}
 use Rattle.std.specs.List.{AllByRecursion}
 use Rattle.std.specs.Option.{option_or}
 use Rattle.std.proofs.ByRecursion.{All-from_get_or}
 use Rattle.std.proofs.lemmas.Bool.{cases_Bool}
-use Rattle.std.proofs.lemmas.List.Folds.{find-append}
 use Rattle.std.proofs.lemmas.Slice.Eq.{bytes_eq-Decides}
-use Rattle.account_model.specs.Format.{Format, is_named, find_named, has_named}
-use Rattle.account_model.specs.Edits.{AddMissing}
-use Rattle.account_model.specs.RecordEdits.{records_edited}
+use Rattle.account_model.specs.Format.{Format, find_named, has_named}
 use Rattle.account_model.specs.Hashes.{elsewhere}
-use Rattle.account_model.specs.Conversion.{Accounts, login_hash, taken_over, gathered, hidden, with_shown, shown, emptied}
-use Rattle.account_model.specs.ConversionLaws.{NamesAreDistinct, Both, AreHidden, KeepsHashes, IsGathered}
-use Rattle.account_model.proofs.RefusalFacts.{find-held}
+use Rattle.account_model.specs.Conversion.{Accounts, login_hash, hidden, with_shown}
+use Rattle.account_model.specs.ConversionLaws.{NamesAreDistinct, Both, AreHidden, KeepsHashes}
 use Rattle.account_model.proofs.SameLaws.{bytes-self}
 
 -- ---- Names
@@ -59,11 +55,6 @@ module _ {R : Type 0} (format : Format R) where
         (all-found rest (λ i j d before inside.
         apart (suc i) (suc j) d (omega (arith, before)) (omega (arith, inside)))),
   )
-
-  -- one record for each
-  pub each-one : {S : Type 0} (f : R → S) (records : List R) → flat_map (λ r. f r ∷ []) records ≡ map f records
-  each-one f [] = refl
-  each-one f (r ∷ records) = ap (λ rest. f r ∷ rest) (each-one f records)
 
   -- whatever they are
   pub any-records : (records : List R) → AllByRecursion (λ r. ⊤) records
@@ -117,8 +108,8 @@ all-with Q change (m ∷ mains) each = (each m, all-with Q change mains each)
 module _ {M H : Type 0} (accounts : Accounts M H)
     (field_of : (text : List ℕ) (m : M) → accounts.field (accounts.with_field text m) ≡ text)
     (name_of :
-      (text : List ℕ) (m : M)
-      → accounts.main.name (accounts.with_field text m) ≡ accounts.main.name m) where
+    (text : List ℕ) (m : M)
+    → accounts.main.name (accounts.with_field text m) ≡ accounts.main.name m) where
   -- whether a name stands among records doesn't go by the field
   pub has-with :
       (name : List ℕ) (mains : List M)
@@ -161,7 +152,7 @@ module _ {M H : Type 0} (accounts : Accounts M H)
   ]
   login-shown hashes m (Some h) found hidden =
       let same : bytes_eq (accounts.field m) elsewhere ≡ true =
-          (bytes_eq-Decides (accounts.field m) elsewhere).1 (hidden refl)
+      (bytes_eq-Decides (accounts.field m) elsewhere).1 (hidden refl)
       in rw (same, found) (field_of (accounts.hash h) m)
 
   -- what gets its hash as field keeps its name

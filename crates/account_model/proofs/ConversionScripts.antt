@@ -5,10 +5,8 @@ use Rattle.std.specs.Prelude.{Option, Some, None, bytes_eq, map, if◌then◌els
 use Rattle.std.specs.List.{AllByRecursion}
 use Rattle.acct_text.specs.declared.files.Files.{Files}
 use Rattle.account_model.specs.declared.records.PasswdRecord.{PasswdRecord}
-use Rattle.account_model.specs.declared.records.ShadowRecord.{ShadowRecord}
 use Rattle.account_model.specs.declared.records.GroupRecord.{GroupRecord}
-use Rattle.account_model.specs.declared.records.GshadowRecord.{GshadowRecord}
-use Rattle.account_model.specs.Format.{is_named, find_named, has_named}
+use Rattle.account_model.specs.Format.{is_named, find_named}
 use Rattle.account_model.specs.Edits.{AddMissing}
 use Rattle.account_model.specs.Records.{passwd_format, shadow_format, group_format, gshadow_format, greatest_days}
 use Rattle.account_model.specs.RecordEdits.{IsWrittenEdit}

@@ -2,20 +2,18 @@
 -- found under a name in the table of hashes after its edits is the old one, which took the field over, or a new one
 -- (`found-gathered`). The first main record of a name is the only one, so the hash of each is its old one
 -- (`login-gathered`).
-use Rattle.std.proofs.Common.{◌≡◌, ◌≢◌, ℕ, suc, ◌≤◌, Bool, true, false, not, List, [], ◌∷◌, ◌++◌, map, refl, sym, ◌∙◌, ap, subst, inl, inr, arith, Ok}
-use Rattle.std.specs.Prelude.{AllPairs, Option, Some, None, bytes_eq, find, flat_map, ⊤, fold, is_some, is_none, option_map, unwrap_or, Decides, if◌then◌else◌}
-use Rattle.std.specs.List.{AllByRecursion}
+use Rattle.std.proofs.Common.{◌≡◌, ℕ, Bool, true, false, not, List, [], ◌∷◌, ◌++◌, map, refl, sym, ◌∙◌, ap, subst, inl, inr}
+use Rattle.std.specs.Prelude.{Option, Some, None, bytes_eq, flat_map, ⊤, fold, is_some, option_map, unwrap_or, if◌then◌else◌}
 use Rattle.std.specs.Option.{option_or}
-use Rattle.std.proofs.ByRecursion.{All-from_get_or}
 use Rattle.std.proofs.lemmas.Bool.{cases_Bool}
 use Rattle.std.proofs.lemmas.List.Folds.{find-append}
 use Rattle.std.proofs.lemmas.Slice.Eq.{bytes_eq-Decides}
-use Rattle.account_model.specs.Format.{Format, is_named, find_named, has_named}
+use Rattle.account_model.specs.Format.{is_named, find_named, has_named}
 use Rattle.account_model.specs.Edits.{AddMissing}
 use Rattle.account_model.specs.RecordEdits.{records_edited}
 use Rattle.account_model.specs.Hashes.{elsewhere}
-use Rattle.account_model.specs.Conversion.{Accounts, login_hash, taken_over, gathered, hidden, with_shown, shown, emptied}
-use Rattle.account_model.specs.ConversionLaws.{NamesAreDistinct, Both, AreHidden, KeepsHashes, IsGathered}
+use Rattle.account_model.specs.Conversion.{Accounts, login_hash, taken_over}
+use Rattle.account_model.specs.ConversionLaws.{NamesAreDistinct, Both, KeepsHashes, IsGathered}
 use Rattle.account_model.proofs.RefusalFacts.{find-held}
 use Rattle.account_model.proofs.ConversionLaws.{or-none, all-found, any-records, each-with, all-by, all-of, all-with, has-with}
 
@@ -24,8 +22,8 @@ use Rattle.account_model.proofs.ConversionLaws.{or-none, all-found, any-records,
 module _ {M H : Type 0} (accounts : Accounts M H) (take : M → H → H) (made : M → H)
     (field_of : (text : List ℕ) (m : M) → accounts.field (accounts.with_field text m) ≡ text)
     (name_of :
-      (text : List ℕ) (m : M)
-      → accounts.main.name (accounts.with_field text m) ≡ accounts.main.name m)
+    (text : List ℕ) (m : M)
+    → accounts.main.name (accounts.with_field text m) ≡ accounts.main.name m)
     (take_name : (m : M) (h : H) → accounts.hashes.name (take m h) ≡ accounts.hashes.name h)
     (take_hash : (m : M) (h : H) → accounts.hash (take m h) ≡ accounts.field m)
     (made_name : (m : M) → accounts.hashes.name (made m) ≡ accounts.main.name m)
@@ -49,9 +47,9 @@ module _ {M H : Type 0} (accounts : Accounts M H) (take : M → H → H) (made :
       then (if same then Some h else find_named accounts.hashes name hashes) else None)
   kept-by mains name h hashes true there is has later =
       let same : accounts.hashes.name h ≡ name =
-          (bytes_eq-Decides (accounts.hashes.name h) name).0 is
+      (bytes_eq-Decides (accounts.hashes.name h) name).0 is
       in let known : has_named accounts.main name mains ≡ there =
-          subst (λ other. has_named accounts.main other mains ≡ there) same has
+      subst (λ other. has_named accounts.main other mains ≡ there) same has
       in first there known later
     where
       first :
@@ -155,6 +153,7 @@ module _ {M H : Type 0} (accounts : Accounts M H) (take : M → H → H) (made :
           find-append (is_named accounts.hashes name) hashes (made m ∷ [])
           ∙ (rw (is, made_name m, same) refl)
       named-so (Some h) same is = rw is refl
+
       other-name :
           (o : Option H)
           → bytes_eq (accounts.main.name m) name ≡ false
@@ -249,18 +248,19 @@ module _ {M H : Type 0} (accounts : Accounts M H) (take : M → H → H) (made :
   hash-gathered mains hashes m None false found none is = made_hash m
   hash-gathered mains hashes m (Some h) b found there is =
       let name : bytes_eq (accounts.hashes.name h) (accounts.main.name m) ≡ true =
-          (find-held (λ h. ⊤) (is_named accounts.hashes (accounts.main.name m)) hashes h
-          (any-records accounts.hashes hashes) there).1
+      (find-held (λ h. ⊤) (is_named accounts.hashes (accounts.main.name m)) hashes h
+      (any-records accounts.hashes hashes) there).1
       in let same : accounts.hashes.name h ≡ accounts.main.name m =
-          (bytes_eq-Decides (accounts.hashes.name h) (accounts.main.name m)).0 name
+      (bytes_eq-Decides (accounts.hashes.name h) (accounts.main.name m)).0 name
       in let main : find_named accounts.main (accounts.hashes.name h) mains ≡ Some m =
-          subst (λ name. find_named accounts.main name mains ≡ Some m) (sym same) found
+      subst (λ name. find_named accounts.main name mains ≡ Some m) (sym same) found
       in ap accounts.hash (taken main) ∙ by b
     where
       taken :
           find_named accounts.main (accounts.hashes.name h) mains ≡ Some m
           → taken_over accounts take mains h ≡ (if b then h else take m h)
       taken main = rw (taken_over, main, is) refl
+
       by :
           (b : Bool)
           → accounts.hash (if b then h else take m h)
@@ -275,8 +275,11 @@ module _ {M H : Type 0} (accounts : Accounts M H) (take : M → H → H) (made :
       → login_hash accounts (all_gathered mains hashes) (accounts.with_field elsewhere m)
       ≡ login_hash accounts hashes m
   login-gathered mains hashes m found =
-      rw (field_of elsewhere m, name_of elsewhere m,
-      found-gathered mains hashes (accounts.main.name m) m found)
+      rw (
+        field_of elsewhere m,
+        name_of elsewhere m,
+        found-gathered mains hashes (accounts.main.name m) m found,
+      )
       (hash-gathered mains hashes m (find_named accounts.hashes (accounts.main.name m) hashes)
       (bytes_eq (accounts.field m) elsewhere) found refl refl)
 

@@ -16,6 +16,9 @@ pub mod ConversionScripts
 pub mod ConversionLaws
 pub mod GatheredLaws
 pub mod ConversionDeeds
+pub mod LockLaws
+pub mod PasswdScripts
+pub mod PasswdLaws
 pub mod GivenFacts
 pub mod UseraddScripts
 pub mod UserdelScripts

@@ -18,6 +18,7 @@ pub mod Chpasswd
 pub mod Conversion
 pub mod ConversionLaws
 pub mod Passwd
+pub mod PasswdLaws
 pub mod Refusals
 pub mod Action
 pub mod Members

@@ -65,15 +65,18 @@ with_password_aging request r = record r {
   inactive = field_value days_value (codes "i") request r.inactive;
 }
 
+-- the edit of the fields
+abbrev pub set_password_aging : Request → Script
+set_password_aging request = record no_edits {
+  shadow = each_where (is_named shadow_format (operand request)) (with_password_aging request) ∷ [];
+}
+
 -- the line of shadow on demand, then the hash, and then the fields
 abbrev pub passwd_script : Request → Files → Script
 passwd_script request files = in_order
     (demand_shadow (operand request) files
     ∷ each_user_hash (operand request) (password_after request) files
-    ∷ record no_edits {
-      shadow =
-          each_where (is_named shadow_format (operand request)) (with_password_aging request) ∷ [];
-    }
+    ∷ (if sets_password_aging request then set_password_aging request else no_edits)
     ∷ [])
 
 -- ---- What `-S` prints

@@ -16,6 +16,7 @@ mod laws;
 mod line_laws;
 mod line_place;
 mod new_user;
+mod passwd_laws;
 mod records;
 mod refusal;
 mod renaming_laws;
@@ -39,6 +40,7 @@ pub use line_laws::{
 };
 pub use line_place::LinePlace;
 pub use new_user::{Allotment, Plan};
+pub use passwd_laws::lock_then_unlock;
 pub use records::{
     GREATEST_DAYS, GREATEST_ID, GroupRecord, GshadowRecord, PasswdRecord, ShadowRecord, SubidRecord,
 };
