@@ -12,6 +12,13 @@ pub mod MemberLaws
 pub mod SettingBounds
 pub mod GroupToolScripts
 pub mod AgingToolScripts
+pub mod ConversionScripts
+pub mod ConversionLaws
+pub mod GatheredLaws
+pub mod ConversionDeeds
+pub mod LockLaws
+pub mod PasswdScripts
+pub mod PasswdLaws
 pub mod GivenFacts
 pub mod UseraddScripts
 pub mod UserdelScripts
@@ -31,6 +38,8 @@ mod GroupdelRows
 mod GpasswdRows
 mod ChageRows
 mod ChpasswdRows
+mod ConversionRows
+mod PasswdRows
 mod PwckRows
 mod GrpckRows
 mod GetsubidsRows

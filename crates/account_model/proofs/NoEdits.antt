@@ -8,7 +8,7 @@ use Rattle.account_model.specs.Tables.{no_edits, table_after, files_after}
 use Rattle.acct_text.proofs.LinesLaws.{lines_of-are}
 
 -- a table without edits stays
-table-stays :
+pub table-stays :
     {R : Type 0} (format : Format R) (bytes : Option (List ℕ))
     → table_after format [] bytes ≡ bytes
 table-stays format None = refl

@@ -109,7 +109,7 @@ module _ {R : Type 0} (format : Format R) (tells : TellsSame format) where
         (sym (lines-again bytes)) (lines-leave edits (lines_of bytes))
 
     -- edits of a table after one another
-    table-then :
+    pub table-then :
         (more : List (Edit R)) (bytes : Option (List ℕ))
         → table_after format (edits ++ more) bytes
         ≡ table_after format more (table_after format edits bytes)

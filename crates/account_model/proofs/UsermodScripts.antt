@@ -143,7 +143,7 @@ field-drop count text is = record {
 }
 
 -- one of two fields
-either-field :
+pub either-field :
     (test : Bool) (a b : List ℕ)
     → IsField a
     → IsField b
@@ -152,7 +152,7 @@ either-field true a b is_a is_b = is_a
 either-field false a b is_a is_b = is_b
 
 -- a hash behind `!`
-locked-hash-field : (hash : List ℕ) → IsField hash → IsField (locked_hash hash)
+pub locked-hash-field : (hash : List ℕ) → IsField hash → IsField (locked_hash hash)
 locked-hash-field hash is = either-field (begins_with exclamation hash) hash (locked ++ hash) is
     (record {
       no_colon = (locked-field.no_colon.0, is.no_colon);
@@ -160,7 +160,7 @@ locked-hash-field hash is = either-field (begins_with exclamation hash) hash (lo
     })
 
 -- a hash without a leading `!`
-unlocked-hash-field : (hash : List ℕ) → IsField hash → IsField (unlocked_hash hash)
+pub unlocked-hash-field : (hash : List ℕ) → IsField hash → IsField (unlocked_hash hash)
 unlocked-hash-field hash is =
     either-field (begins_with exclamation hash) (drop 1 hash) hash (field-drop 1 hash is) is
 

@@ -15,6 +15,10 @@ pub mod Statuses
 pub mod Users
 pub mod Chage
 pub mod Chpasswd
+pub mod Conversion
+pub mod ConversionLaws
+pub mod Passwd
+pub mod PasswdLaws
 pub mod Refusals
 pub mod Action
 pub mod Members

@@ -3,7 +3,7 @@ use Rattle.std.specs.Prelude.{ℕ, List, [], ◌∷◌, ◌++◌, codes, decimal
 use Rattle.account_model.specs.declared.tool.Tool.{Tool}
 use Rattle.account_model.specs.declared.tool.Tool.TheVariants.{Chage}
 use Rattle.account_model.specs.declared.refusal.Refusal.{Refusal}
-use Rattle.account_model.specs.declared.refusal.Refusal.TheVariants.{BadName, BadKey, BadValue, UserExists, GroupExists, NoUser, NoGroup, UidInUse, GidInUse, NoFreeUid, NoFreeGid, NoGap, Meets, EmptyHash, PrimaryGroup, NotMember, NoShadow, BadLine, NoRanges, Multiple}
+use Rattle.account_model.specs.declared.refusal.Refusal.TheVariants.{BadName, BadKey, BadValue, UserExists, GroupExists, NoUser, NoGroup, UidInUse, GidInUse, NoFreeUid, NoFreeGid, NoGap, Meets, EmptyHash, PrimaryGroup, NotMember, NoShadow, NoGshadow, BadLine, NoRanges, Multiple}
 use Rattle.account_model.specs.declared.refusal.LineProblem.{LineProblem}
 use Rattle.account_model.specs.declared.refusal.LineProblem.TheVariants.{NoColon, HashColon, UnknownUser, LineEnd}
 use Rattle.acct_text.specs.Bytes.{newline}
@@ -93,6 +93,7 @@ refusal_text tool (PrimaryGroup group user) =
     codes "group " ++ group ++ codes " is the primary group of " ++ user
 refusal_text tool (NotMember user group) = codes "user " ++ user ++ codes " is not a member of " ++ group
 refusal_text tool NoShadow = codes "shadow does not exist"
+refusal_text tool NoGshadow = codes "gshadow does not exist"
 refusal_text tool (BadLine line problem) =
     codes "line " ++ decimal line ++ codes ": " ++ line_problem_text problem
 refusal_text tool (NoRanges name) = codes "no ranges for " ++ name

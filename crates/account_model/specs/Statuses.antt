@@ -8,7 +8,7 @@ use Rattle.account_model.specs.declared.tool.Tool.TheVariants.{Useradd, Usermod,
 use Rattle.acct_text.specs.declared.Tab.{Tab}
 use Rattle.acct_text.specs.declared.Tab.TheVariants.{Group, Gshadow}
 use Rattle.account_model.specs.declared.refusal.Refusal.{Refusal}
-use Rattle.account_model.specs.declared.refusal.Refusal.TheVariants.{BadName, BadKey, BadValue, UserExists, GroupExists, NoUser, NoGroup, UidInUse, GidInUse, NoFreeUid, NoFreeGid, NoGap, Meets, EmptyHash, PrimaryGroup, NotMember, NoShadow, BadLine, NoRanges, Multiple}
+use Rattle.account_model.specs.declared.refusal.Refusal.TheVariants.{BadName, BadKey, BadValue, UserExists, GroupExists, NoUser, NoGroup, UidInUse, GidInUse, NoFreeUid, NoFreeGid, NoGap, Meets, EmptyHash, PrimaryGroup, NotMember, NoShadow, NoGshadow, BadLine, NoRanges, Multiple}
 
 -- ---- The numbers
 
@@ -158,6 +158,7 @@ refusal_status tool (EmptyHash name) = bad_argument
 refusal_status tool (PrimaryGroup group user) = primary_of_user
 refusal_status tool (NotMember user group) = bad_argument
 refusal_status tool NoShadow = no_shadow_status tool
+refusal_status tool NoGshadow = general_failure
 refusal_status tool (BadLine line problem) = general_failure
 refusal_status tool (NoRanges name) = general_failure
 refusal_status tool (Multiple tab name) = multiple_status tool tab

@@ -7,6 +7,7 @@
 #![tactic(auto)]
 
 mod choice_laws;
+mod conversion_laws;
 mod date_laws;
 mod deed_lines;
 mod fault;
@@ -15,6 +16,7 @@ mod laws;
 mod line_laws;
 mod line_place;
 mod new_user;
+mod passwd_laws;
 mod records;
 mod refusal;
 mod renaming_laws;
@@ -26,6 +28,7 @@ mod word_laws;
 mod words_of;
 
 pub use choice_laws::{ids_are_chosen, ranges_are_found};
+pub use conversion_laws::{conversion_keeps_groups, conversion_keeps_users};
 pub use date_laws::{days_are_counted, days_have_dates};
 pub use deed_lines::{deeds_leave_unnamed, deeds_leave_untouched};
 pub use fault::LineFault;
@@ -37,6 +40,7 @@ pub use line_laws::{
 };
 pub use line_place::LinePlace;
 pub use new_user::{Allotment, Plan};
+pub use passwd_laws::lock_then_unlock;
 pub use records::{
     GREATEST_DAYS, GREATEST_ID, GroupRecord, GshadowRecord, PasswdRecord, ShadowRecord, SubidRecord,
 };

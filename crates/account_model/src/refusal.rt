@@ -51,8 +51,10 @@ pub enum Refusal {
     PrimaryGroup(Bytes, Bytes),
     /// The user isn't a member of the group.
     NotMember(Bytes, Bytes),
-    /// The option needs shadow, which is absent.
+    /// The command or its option needs shadow, which is absent.
     NoShadow,
+    /// The command needs gshadow, which is absent.
+    NoGshadow,
     /// This line of the input, counted from 1, is the first bad one.
     BadLine(u32, LineProblem),
     /// No range is owned by the name.

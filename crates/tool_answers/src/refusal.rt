@@ -32,6 +32,7 @@ pub fn refusal_text(alloc: Global, tool: Tool, refusal: &Refusal) -> Result<Byte
         Refusal::PrimaryGroup(group, user) => primary(alloc, group.as_slice(), user.as_slice()),
         Refusal::NotMember(user, group) => no_member(alloc, user.as_slice(), group.as_slice()),
         Refusal::NoShadow => Bytes::of(alloc, b"shadow does not exist"),
+        Refusal::NoGshadow => Bytes::of(alloc, b"gshadow does not exist"),
         Refusal::BadLine(line, problem) => bad_line(alloc, *line, problem),
         Refusal::NoRanges(name) => pair(alloc, b"no ranges for ", name.as_slice()),
         Refusal::Multiple(tab, name) => multiple(alloc, *tab, name.as_slice()),
