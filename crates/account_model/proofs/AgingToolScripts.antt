@@ -36,16 +36,13 @@ use Rattle.account_model.specs.Chpasswd.{line_name, line_hash, line_problem, bad
 use Rattle.account_model.proofs.DatesLaws.{date_parts, within_year}
 use Rattle.account_model.proofs.DeedLaws.{first-none}
 use Rattle.account_model.proofs.FieldFacts.{lacks-byte}
-use Rattle.account_model.proofs.HeldLaws.{shadow-holds, each_where-written}
 use Rattle.account_model.proofs.RefusalFacts.{field-kept}
-use Rattle.account_model.proofs.WrittenScripts.{users-written}
 use Rattle.account_model.proofs.ComposedScripts.{all-hold}
-use Rattle.account_model.proofs.KeptIds.{users-keep}
-use Rattle.account_model.proofs.LawfulParts.{demand-lawful, hash-lawful}
-use Rattle.account_model.proofs.LawfulScripts.{IsLawful, lawful, lawful-composed}
+use Rattle.account_model.proofs.LawfulParts.{demand-lawful, hash-lawful, shadow-lawful}
+use Rattle.account_model.proofs.LawfulScripts.{IsLawful, lawful-composed}
 use Rattle.account_model.proofs.LawfulTools.{IsPlain, LawfulTool, by-choice, quiet-act}
 use Rattle.account_model.proofs.NamedLaws.{not-others, not-this}
-use Rattle.account_model.proofs.NamedParts.{first-has, shadow-spares}
+use Rattle.account_model.proofs.NamedParts.{first-has}
 use Rattle.account_model.specs.declared.tool.Tool.TheVariants.{Chage, Chpasswd}
 use Rattle.account_model.specs.NamedLines.{Named, named_by}
 
@@ -207,13 +204,8 @@ chage-script-lawful request files =
     ∷ []) (
       demand-lawful named (operand request) has files,
       (
-        lawful (users-written [] _ tt (
-          each_where-written shadow_format IsShadow shadow-holds
-              (is_named shadow_format (operand request)) (with_aging request)
-              (aging-held request),
-          tt,
-        )) (shadow-spares named (operand request) has (with_aging request))
-            (λ none. users-keep [] _ tt),
+        shadow-lawful named (operand request) has (with_aging request)
+            (λ small. aging-held request),
         tt,
       ),
     )
@@ -273,33 +265,18 @@ last-change-lawful :
     {day : ℕ} (named : Named) (name : List ℕ)
     → ((other : List ℕ) → is_listed other named.users ≡ false → bytes_eq other name ≡ false)
     → IsLawful day false false named (set_last_change name day)
-last-change-lawful {day} named name has = record {
-  written = record {
-    passwd = tt;
-    shadow = λ small. (
-      each_where-written shadow_format IsShadow shadow-holds (is_named shadow_format name)
-          (λ r. record r { last_change = Some day })
-          (λ r is. record {
-            name = is.name;
-            hash = is.hash;
-            last_change = small;
-            minimum = is.minimum;
-            maximum = is.maximum;
-            warning = is.warning;
-            inactive = is.inactive;
-            expiration = is.expiration;
-            rest = is.rest;
-          }),
-      tt,
-    );
-    group = tt;
-    gshadow = tt;
-    subuid = tt;
-    subgid = tt;
-  };
-  spares = shadow-spares named name has (λ r. record r { last_change = Some day });
-  keep = λ none. users-keep [] _ tt;
-}
+last-change-lawful {day} named name has = shadow-lawful named name has
+    (λ r. record r { last_change = Some day }) (λ small r is. record {
+      name = is.name;
+      hash = is.hash;
+      last_change = small;
+      minimum = is.minimum;
+      maximum = is.maximum;
+      warning = is.warning;
+      inactive = is.inactive;
+      expiration = is.expiration;
+      rest = is.rest;
+    })
 
 -- what a line does
 set-hash-lawful :

@@ -39,12 +39,12 @@ use Rattle.account_model.proofs.SettingBounds.{free-gid-small}
 use Rattle.account_model.proofs.WrittenScripts.{groups-written, elsewhere-field, locked-field}
 use Rattle.account_model.proofs.ComposedScripts.{all-hold, flag-holds, option-holds, some-holds}
 use Rattle.account_model.proofs.KeptIds.{KeepIds, drop-keeps, groups-keep, may-give}
-use Rattle.account_model.proofs.LawfulParts.{administrators-lawful, group-hash-lawful, members-lawful}
+use Rattle.account_model.proofs.LawfulParts.{administrators-lawful, group-hash-lawful, lines-lawful, members-lawful}
 use Rattle.account_model.proofs.LawfulScripts.{IsLawful, lawful, lawful-composed}
 use Rattle.account_model.proofs.LawfulTools.{LawfulTool, by-choice, quiet-act}
 use Rattle.account_model.proofs.MemberLaws.{with-listed, without-listed}
 use Rattle.account_model.proofs.NamedLaws.{where-spares}
-use Rattle.account_model.proofs.NamedParts.{each-spares, first-has, lines-spare, new-group-spares, removed-spares}
+use Rattle.account_model.proofs.NamedParts.{each-spares, first-has, new-group-spares, removed-spares}
 
 -- ---- groupdel
 
@@ -222,25 +222,6 @@ set-gid-written group gid old small = record {
   );
 }
 
--- a name of a first field
-rename-group-written : (old new : List ℕ) → IsNameField new → IsWrittenScript (rename_group old new)
-rename-group-written old new named = groups-written _ _ (
-  each_where-written group_format IsGroup group-holds (is_named group_format old)
-      (λ r. record r { name = new })
-      (λ r is. record { name = named; password = is.password; gid = is.gid; members = is.members }),
-  tt,
-) (
-  each_where-written gshadow_format IsGshadow gshadow-holds (is_named gshadow_format old)
-      (λ r. record r { name = new })
-      (λ r is. record {
-        name = named;
-        password = is.password;
-        administrators = is.administrators;
-        members = is.members;
-      }),
-  tt,
-)
-
 module _ (request : Request) (files : Files) where
   -- what groupmod names
   abbrev groupmod_names : Named
@@ -252,6 +233,21 @@ module _ (request : Request) (files : Files) where
       → is_listed name groupmod_names.groups ≡ false
       → bytes_eq name (operand request) ≡ false
   groupmod-has = first-has (operand request) []
+
+  -- the name of `-n`, which can stand in a first field
+  rename-lawful :
+      {day : ℕ} (name : List ℕ)
+      → IsNameField name
+      → IsLawful day true false groupmod_names (rename_group (operand request) name)
+  rename-lawful name named = lines-lawful groupmod_names (operand request) groupmod-has
+      (λ r. record r { name = name }) (λ r. record r { name = name })
+      (λ r is. record { name = named; password = is.password; gid = is.gid; members = is.members })
+      (λ r is. record {
+        name = named;
+        password = is.password;
+        administrators = is.administrators;
+        members = is.members;
+      }) (λ r. refl)
 
   -- the GID of `-g`, by the one that is given and the group that is found
   gid-by :
@@ -316,11 +312,9 @@ module _ (request : Request) (files : Files) where
               refl,
           (
             option-holds composed (codes "n") request (rename_group group)
-                (λ name given. lawful (rename-group-written group name
+                (λ name given. rename-lawful name
                 (valid-name name (good-value (codes "n") is_valid_name request name
-                after_name.0 given)))
-                (lines-spare groupmod_names group groupmod-has (λ r. record r { name = name })
-                (λ r. record r { name = name })) may-give),
+                after_name.0 given))),
             tt,
           ),
         ),

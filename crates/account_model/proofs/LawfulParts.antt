@@ -1,13 +1,18 @@
--- The parts of scripts that several tools have are lawful: the lines of a user on demand and its hash (`demand-lawful`,
--- `hash-lawful`), and those of a group, its administrators and its members.
-use Rattle.std.proofs.Common.{◌≡◌, ℕ, Bool, false, List, [], refl}
+-- The parts of scripts that several tools have are lawful: the lines of a user (`passwd-lawful`, `shadow-lawful`), the one of
+-- shadow on demand (`demand-lawful`) and the hash; and those of a group, its hash, its administrators and its members.
+use Rattle.std.proofs.Common.{◌≡◌, ℕ, ◌≤◌, Bool, false, List, [], ◌∷◌, refl}
 use Rattle.std.specs.Prelude.{is_some, bytes_eq}
 use Rattle.std.specs.List.{AllByRecursion}
 use Rattle.acct_text.specs.declared.files.Files.{Files}
+use Rattle.account_model.specs.declared.records.PasswdRecord.{PasswdRecord}
+use Rattle.account_model.specs.declared.records.ShadowRecord.{ShadowRecord}
+use Rattle.account_model.specs.declared.records.GroupRecord.{GroupRecord}
+use Rattle.account_model.specs.declared.records.GshadowRecord.{GshadowRecord}
 use Rattle.account_model.specs.Text.{is_listed}
+use Rattle.account_model.specs.Edits.{each_where}
 use Rattle.account_model.specs.Format.{is_named}
-use Rattle.account_model.specs.Records.{passwd_format, group_format}
-use Rattle.account_model.specs.Written.{IsField, IsListed}
+use Rattle.account_model.specs.Records.{passwd_format, shadow_format, group_format, gshadow_format, greatest_days}
+use Rattle.account_model.specs.Written.{IsField, IsListed, IsPasswd, IsShadow, IsGroup, IsGshadow}
 use Rattle.account_model.specs.Tables.{no_edits, passwd_records, group_records}
 use Rattle.account_model.specs.Users.{find_user, group_named}
 use Rattle.account_model.specs.Hashes.{demand_gshadow, demand_shadow, each_user_hash, elsewhere, lacks_gshadow, lacks_shadow, make_gshadow, make_shadow, set_administrators, set_group_hash, write_administrators, write_group_hash}
@@ -16,16 +21,63 @@ use Rattle.account_model.specs.NamedLines.{Named}
 use Rattle.account_model.proofs.ComposedScripts.{either-holds, some-holds}
 use Rattle.account_model.proofs.KeptIds.{groups-keep, users-keep, where-keeps}
 use Rattle.account_model.proofs.LawfulScripts.{IsLawful, lawful, lawful-composed}
-use Rattle.account_model.proofs.NamedLaws.{found-named, users-spare, where-spares}
-use Rattle.account_model.proofs.NamedParts.{group-spares, gshadow-spares, make-group-spares, make-spares, members-spare, other-user, shadow-spares}
+use Rattle.account_model.proofs.NamedLaws.{found-named, groups-spare, users-spare, where-spares}
+use Rattle.account_model.proofs.NamedParts.{each-gshadow-spares, each-spares, make-group-spares, make-spares, other-user}
 use Rattle.account_model.proofs.RefusalFacts.{user-held, group-held}
-use Rattle.account_model.proofs.WrittenScripts.{administrators-written, group-password-written, groups-written, gshadow-password-written, make-gshadow-written, make-shadow-written, members-written, password-written, shadow-hash-written, users-written}
+use Rattle.account_model.proofs.HeldLaws.{passwd-holds, shadow-holds, group-holds, gshadow-holds, each_where-written}
+use Rattle.account_model.proofs.WrittenScripts.{group-password-held, groups-written, make-gshadow-written, make-shadow-written, password-held, users-written}
 
 -- ---- Users
 
 -- what is named of a user: the name is one of those of users
 module _ {day : ℕ} {gives sorts : Bool} (named : Named) (user : List ℕ)
     (has : (name : List ℕ) → is_listed name named.users ≡ false → bytes_eq name user ≡ false) where
+  -- the user's line of passwd becomes another that a line can hold, of the same UID
+  pub passwd-lawful :
+      (f : PasswdRecord → PasswdRecord)
+      → ((r : PasswdRecord) → IsPasswd r → IsPasswd (f r))
+      → ((r : PasswdRecord) → (f r).uid ≡ r.uid)
+      → IsLawful day gives sorts named (record no_edits {
+        passwd = each_where (is_named passwd_format user) f ∷ [];
+      })
+  passwd-lawful f held same = lawful
+      (users-written _ [] (
+        each_where-written passwd_format IsPasswd passwd-holds (is_named passwd_format user) f held,
+        tt,
+      ) tt)
+      (users-spare _ [] (
+        where-spares passwd_format sorts _ (is_named passwd_format user) f
+            (other-user named user has),
+        tt,
+      ) tt)
+      (λ none. users-keep _ []
+      (where-keeps (λ one. one.uid) (is_named passwd_format user) f same, tt))
+
+  -- that of shadow, which may need a day that shadow holds
+  pub shadow-lawful :
+      (f : ShadowRecord → ShadowRecord)
+      → (day ≤ greatest_days → (r : ShadowRecord) → IsShadow r → IsShadow (f r))
+      → IsLawful day gives sorts named (record no_edits {
+        shadow = each_where (is_named shadow_format user) f ∷ [];
+      })
+  shadow-lawful f held = record {
+    written = record {
+      passwd = tt;
+      shadow = λ small. (
+        each_where-written shadow_format IsShadow shadow-holds (is_named shadow_format user) f
+            (held small),
+        tt,
+      );
+      group = tt;
+      gshadow = tt;
+      subuid = tt;
+      subgid = tt;
+    };
+    spares = users-spare [] _ tt
+        (where-spares shadow_format sorts _ (is_named shadow_format user) f (λ r. has r.name), tt);
+    keep = λ none. users-keep [] _ tt;
+  }
+
   -- the line of shadow on demand
   pub demand-lawful : (files : Files) → IsLawful day gives sorts named (demand_shadow user files)
   demand-lawful files =
@@ -47,20 +99,19 @@ module _ {day : ℕ} {gives sorts : Bool} (named : Named) (user : List ℕ)
       → ((hash : List ℕ) → IsField hash → IsField (f hash))
       → IsLawful day gives sorts named (each_user_hash user f files)
   hash-lawful f files keeps = either-holds (lawful-composed named) (is_some files.shadow) _ _
-      (lawful (users-written [] _ tt (shadow-hash-written user f keeps, tt))
-      (shadow-spares named user has (λ r. record r { hash = f r.hash }))
-      (λ none. users-keep [] _ tt))
-      (lawful (users-written _ [] (password-written user f keeps, tt) tt)
-      (users-spare _ [] (
-        where-spares passwd_format sorts _ (is_named passwd_format user)
-            (λ r. record r { password = f r.password }) (other-user named user has),
-        tt,
-      ) tt)
-      (λ none. users-keep _ [] (
-        where-keeps (λ one. one.uid) (is_named passwd_format user)
-            (λ r. record r { password = f r.password }) (λ one. refl),
-        tt,
-      )))
+      (shadow-lawful (λ r. record r { hash = f r.hash }) (λ small r is. record {
+        name = is.name;
+        hash = keeps r.hash is.hash;
+        last_change = is.last_change;
+        minimum = is.minimum;
+        maximum = is.maximum;
+        warning = is.warning;
+        inactive = is.inactive;
+        expiration = is.expiration;
+        rest = is.rest;
+      }))
+      (passwd-lawful (λ r. record r { password = f r.password })
+      (λ r. password-held (f r.password) r (keeps r.password)) (λ r. refl))
 
 -- ---- Groups
 
@@ -68,21 +119,84 @@ module _ {day : ℕ} {gives sorts : Bool} (named : Named) (user : List ℕ)
 module _ {day : ℕ} {gives sorts : Bool} (named : Named) (group : List ℕ)
     (has : (name : List ℕ) → is_listed name named.groups ≡ false → bytes_eq name group ≡ false)
   where
+    -- the group's lines become others that a line can hold, of the same GID
+    pub lines-lawful :
+        (f : GroupRecord → GroupRecord) (g : GshadowRecord → GshadowRecord)
+        → ((r : GroupRecord) → IsGroup r → IsGroup (f r))
+        → ((r : GshadowRecord) → IsGshadow r → IsGshadow (g r))
+        → ((r : GroupRecord) → (f r).gid ≡ r.gid)
+        → IsLawful day gives sorts named (record no_edits {
+          group = each_where (is_named group_format group) f ∷ [];
+          gshadow = each_where (is_named gshadow_format group) g ∷ [];
+        })
+    lines-lawful f g held also same = lawful
+        (groups-written _ _
+        (each_where-written group_format IsGroup group-holds (is_named group_format group) f held, tt) (
+          each_where-written gshadow_format IsGshadow gshadow-holds
+              (is_named gshadow_format group) g also,
+          tt,
+        ))
+        (groups-spare _ _ (each-spares named group has sorts f, tt)
+        (each-gshadow-spares named group has sorts g, tt))
+        (λ none. groups-keep _ _
+        (where-keeps (λ one. one.gid) (is_named group_format group) f same, tt))
+
+    -- that of group alone
+    pub group-lawful :
+        (f : GroupRecord → GroupRecord)
+        → ((r : GroupRecord) → IsGroup r → IsGroup (f r))
+        → ((r : GroupRecord) → (f r).gid ≡ r.gid)
+        → IsLawful day gives sorts named (record no_edits {
+          group = each_where (is_named group_format group) f ∷ [];
+        })
+    group-lawful f held same = lawful
+        (groups-written _ []
+        (each_where-written group_format IsGroup group-holds (is_named group_format group) f held, tt)
+        tt)
+        (groups-spare _ [] (each-spares named group has sorts f, tt) tt)
+        (λ none. groups-keep _ []
+        (where-keeps (λ one. one.gid) (is_named group_format group) f same, tt))
+
+    -- and that of gshadow
+    pub gshadow-lawful :
+        (g : GshadowRecord → GshadowRecord)
+        → ((r : GshadowRecord) → IsGshadow r → IsGshadow (g r))
+        → IsLawful day gives sorts named (record no_edits {
+          gshadow = each_where (is_named gshadow_format group) g ∷ [];
+        })
+    gshadow-lawful g held = lawful
+        (groups-written [] _ tt (
+          each_where-written gshadow_format IsGshadow gshadow-holds
+              (is_named gshadow_format group) g held,
+          tt,
+        ))
+        (groups-spare [] _ tt (each-gshadow-spares named group has sorts g, tt))
+        (λ none. groups-keep [] _ tt)
+
     -- members that become others which can stand in a list
     pub members-lawful :
         (f : List (List ℕ) → List (List ℕ))
         → ((names : List (List ℕ)) → AllByRecursion IsListed names
         → AllByRecursion IsListed (f names))
         → IsLawful day gives sorts named (each_members group f)
-    members-lawful f keeps = lawful (members-written group f keeps)
-        (members-spare named group has f) (λ none. groups-keep _ _ (
-          where-keeps (λ one. one.gid) (is_named group_format group)
-              (λ r. record r { members = f r.members }) (λ one. refl),
-          tt,
-        ))
+    members-lawful f keeps = lines-lawful (λ r. record r { members = f r.members })
+        (λ r. record r { members = f r.members })
+        (λ r is. record {
+          name = is.name;
+          password = is.password;
+          gid = is.gid;
+          members = keeps r.members is.members;
+        })
+        (λ r is. record {
+          name = is.name;
+          password = is.password;
+          administrators = is.administrators;
+          members = keeps r.members is.members;
+        }) (λ r. refl)
 
     -- the line of gshadow on demand
-    demand-group-lawful : (files : Files) → IsLawful day gives sorts named (demand_gshadow group files)
+    demand-group-lawful :
+        (files : Files) → IsLawful day gives sorts named (demand_gshadow group files)
     demand-group-lawful files =
         either-holds (lawful-composed named) (lacks_gshadow group files) _ no_edits
         (some-holds (lawful-composed named) make_gshadow (group_named group files)
@@ -105,16 +219,14 @@ module _ {day : ℕ} {gives sorts : Bool} (named : Named) (group : List ℕ)
         (lawful-composed named).both (demand_gshadow group files)
         (write_group_hash group hash files) (demand-group-lawful files)
         (either-holds (lawful-composed named) (is_some files.gshadow) _ _
-        (lawful (groups-written [] _ tt (gshadow-password-written group hash is, tt))
-        (gshadow-spares named group has (λ r. record r { password = hash }))
-        (λ none. groups-keep [] _ tt))
-        (lawful (groups-written _ [] (group-password-written group hash is, tt) tt)
-        (group-spares named group has (λ r. record r { password = hash }))
-        (λ none. groups-keep _ [] (
-          where-keeps (λ one. one.gid) (is_named group_format group)
-              (λ r. record r { password = hash }) (λ one. refl),
-          tt,
-        ))))
+        (gshadow-lawful (λ r. record r { password = hash }) (λ r held. record {
+          name = held.name;
+          password = is;
+          administrators = held.administrators;
+          members = held.members;
+        }))
+        (group-lawful (λ r. record r { password = hash }) (λ r. group-password-held hash r is)
+        (λ r. refl)))
 
     -- administrators that can stand in a list
     pub administrators-lawful :
@@ -124,6 +236,9 @@ module _ {day : ℕ} {gives sorts : Bool} (named : Named) (group : List ℕ)
     administrators-lawful names files all =
         (lawful-composed named).both (demand_gshadow group files)
         (write_administrators group names) (demand-group-lawful files)
-        (lawful (administrators-written group names all)
-        (gshadow-spares named group has (λ r. record r { administrators = names }))
-        (λ none. groups-keep [] _ tt))
+        (gshadow-lawful (λ r. record r { administrators = names }) (λ r held. record {
+          name = held.name;
+          password = held.password;
+          administrators = all;
+          members = held.members;
+        }))

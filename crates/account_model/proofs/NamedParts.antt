@@ -1,19 +1,16 @@
 -- The parts of scripts that spare what a command doesn't name: lines of a user that it names, and those of a group.
-use Rattle.std.proofs.Common.{◌≡◌, ℕ, Bool, false, ◌||◌, List, [], ◌∷◌, ◌∙◌, ap}
+use Rattle.std.proofs.Common.{◌≡◌, ℕ, Bool, false, ◌||◌, List, ◌∷◌, ◌∙◌, ap}
 use Rattle.std.specs.Prelude.{◌==◌, bytes_eq}
 use Rattle.std.specs.List.{list_any}
 use Rattle.std.proofs.lemmas.Bool.{or_parts}
 use Rattle.acct_text.specs.declared.files.Files.{Files}
 use Rattle.account_model.specs.declared.records.PasswdRecord.{PasswdRecord}
-use Rattle.account_model.specs.declared.records.ShadowRecord.{ShadowRecord}
 use Rattle.account_model.specs.declared.records.GroupRecord.{GroupRecord}
 use Rattle.account_model.specs.declared.records.GshadowRecord.{GshadowRecord}
 use Rattle.account_model.specs.Text.{is_listed}
 use Rattle.account_model.specs.Format.{is_named}
-use Rattle.account_model.specs.Records.{passwd_format, shadow_format, group_format, gshadow_format}
-use Rattle.account_model.specs.Tables.{no_edits}
+use Rattle.account_model.specs.Records.{passwd_format, group_format, gshadow_format}
 use Rattle.account_model.specs.Hashes.{elsewhere, make_gshadow, make_shadow}
-use Rattle.account_model.specs.Members.{each_members}
 use Rattle.account_model.specs.NewAccount.{add_group}
 use Rattle.account_model.specs.Groupdel.{remove_group}
 use Rattle.account_model.specs.Edits.{each_where}
@@ -32,15 +29,6 @@ module _ (named : Named) (user : List ℕ)
       (list_any (λ gid. r.gid == gid) named.gids) none).0
 
   module _ {sorts : Bool} where
-    -- the user's lines of shadow become others
-    pub shadow-spares :
-        (f : ShadowRecord → ShadowRecord)
-        → SparesUnnamed sorts named (record no_edits {
-          shadow = each_where (is_named shadow_format user) f ∷ [];
-        })
-    shadow-spares f = users-spare [] _ tt
-        (where-spares shadow_format sorts _ (is_named shadow_format user) f (λ r. has r.name), tt)
-
     -- the line of shadow that is made
     pub make-spares :
         (found : PasswdRecord) → found.name ≡ user → SparesUnnamed sorts named (make_shadow found)
@@ -77,7 +65,7 @@ module _ (named : Named) (group : List ℕ)
         where-spares group_format sorts _ (is_named group_format group) f other-group
 
     -- those of gshadow
-    each-gshadow-spares :
+    pub each-gshadow-spares :
         (sorts : Bool) (f : GshadowRecord → GshadowRecord)
         → Spares gshadow_format sorts (names_gshadow named)
         (each_where (is_named gshadow_format group) f)
@@ -85,37 +73,6 @@ module _ (named : Named) (group : List ℕ)
         where-spares gshadow_format sorts _ (is_named gshadow_format group) f other-gshadow
 
     module _ {sorts : Bool} where
-      -- a script of the group's lines in group
-      pub group-spares :
-          (f : GroupRecord → GroupRecord)
-          → SparesUnnamed sorts named (record no_edits {
-            group = each_where (is_named group_format group) f ∷ [];
-          })
-      group-spares f = groups-spare _ [] (each-spares sorts f, tt) tt
-
-      -- in gshadow
-      pub gshadow-spares :
-          (f : GshadowRecord → GshadowRecord)
-          → SparesUnnamed sorts named (record no_edits {
-            gshadow = each_where (is_named gshadow_format group) f ∷ [];
-          })
-      gshadow-spares f = groups-spare [] _ tt (each-gshadow-spares sorts f, tt)
-
-      -- in both
-      pub lines-spare :
-          (f : GroupRecord → GroupRecord) (g : GshadowRecord → GshadowRecord)
-          → SparesUnnamed sorts named (record no_edits {
-            group = each_where (is_named group_format group) f ∷ [];
-            gshadow = each_where (is_named gshadow_format group) g ∷ [];
-          })
-      lines-spare f g = groups-spare _ _ (each-spares sorts f, tt) (each-gshadow-spares sorts g, tt)
-
-      -- the members
-      pub members-spare :
-          (f : List (List ℕ) → List (List ℕ)) → SparesUnnamed sorts named (each_members group f)
-      members-spare f = lines-spare (λ r. record r { members = f r.members })
-          (λ r. record r { members = f r.members })
-
       -- the lines of a new group
       pub new-group-spares :
           (hash : List ℕ) (gid : ℕ) (files : Files)

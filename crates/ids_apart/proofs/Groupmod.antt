@@ -14,7 +14,7 @@ use Rattle.account_model.specs.Text.{first_some}
 use Rattle.account_model.specs.Format.{is_named}
 use Rattle.account_model.specs.Edits.{Edit, first_multiple}
 use Rattle.account_model.specs.Records.{passwd_format, shadow_format, group_format, subid_format}
-use Rattle.account_model.specs.Tables.{Script, no_edits, followed_by, passwd_records, shadow_records, group_records}
+use Rattle.account_model.specs.Tables.{Script, no_edits, passwd_records, shadow_records, group_records}
 use Rattle.account_model.specs.Ids.{used_gids, is_used}
 use Rattle.account_model.specs.Hashes.{set_group_hash}
 use Rattle.account_model.specs.Users.{group_named}
@@ -32,7 +32,7 @@ use Rattle.ids_apart.proofs.NewKeys.{IsFreeKey, set-meets}
 use Rattle.ids_apart.proofs.Refusals.{all-none, map-none}
 use Rattle.ids_apart.proofs.Shared.{unshared}
 use Rattle.ids_apart.proofs.Unused.{refuse-fails, unused-count}
-use Rattle.account_model.proofs.ComposedScripts.{option-holds}
+use Rattle.account_model.proofs.ComposedScripts.{IsComposed, all-hold, option-holds, some-holds}
 use Rattle.ids_apart.proofs.Quiet.{LeavesRanges, IsQuiet, leaves-composed, leaves-gentle, quiet-composed, group-hash-quiet}
 
 -- ---- The parts of the script
@@ -56,45 +56,12 @@ gid_part group given found = elim given as (λ n. Script) [
   | Some gid ↦ elim found as (λ r. Script) [ None ↦ no_edits | Some old ↦ set_gid group gid old ]
 ]
 
--- it leaves ranges
-gid-leaves :
-    (group : List ℕ) (given : Option ℕ) (found : Option GroupRecord)
-    → LeavesRanges (gid_part group given found)
-gid-leaves group None found = leaves-composed.none
-gid-leaves group (Some gid) None = leaves-composed.none
-gid-leaves group (Some gid) (Some old) = record { subuid = refl; subgid = refl }
-
--- users of the old GID get the new one, and keep their UIDs
-gid-users :
-    (group : List ℕ) (given : Option ℕ) (found : Option GroupRecord)
-    → AllByRecursion (KeepsKeys passwd_format uid_key) (gid_part group given found).passwd
-gid-users group None found = tt
-gid-users group (Some gid) None = tt
-gid-users group (Some gid) (Some old) = (
-  where-keys passwd_format uid_key (λ user. user.gid == old.gid) (λ user. record user { gid = gid })
-      (λ r. refl) (λ r. refl),
-  tt,
-)
-
 -- the name, by the one that is given
 abbrev name_part : List ℕ → Option (List ℕ) → Script
 name_part group given =
     elim given as (λ n. Script) [ None ↦ no_edits | Some name ↦ rename_group group name ]
 
--- it leaves ranges
-name-leaves :
-    (group : List ℕ) (given : Option (List ℕ)) → LeavesRanges (name_part group given)
-name-leaves group None = leaves-composed.none
-name-leaves group (Some name) = record { subuid = refl; subgid = refl }
-
--- and users
-name-users :
-    (group : List ℕ) (given : Option (List ℕ))
-    → AllByRecursion (KeepsKeys passwd_format uid_key) (name_part group given).passwd
-name-users group None = tt
-name-users group (Some name) = tt
-
--- and the GID of the group that it renames
+-- it keeps the GID of the group that it renames
 name-groups :
     (group : List ℕ) (given : Option (List ℕ)) (id : ℕ)
     → AllByRecursion (AddsNone group_format (has_key gid_key id)) (name_part group given).group
@@ -105,20 +72,54 @@ name-groups group (Some name) id = (
   tt,
 )
 
--- ---- The ranges
+-- ---- The users and the ranges
 
--- groupmod leaves ranges
+-- users keep their names and UIDs, and ranges are left
+record LeavesOthers (script : Script) : Type 0 where
+  users : AllByRecursion (KeepsKeys passwd_format uid_key) script.passwd
+  ranges : LeavesRanges script
+
+-- so it is of no edits, and of two scripts
+others-composed : IsComposed LeavesOthers
+others-composed = record {
+  none = record { users = tt; ranges = leaves-composed.none };
+  both = λ first second one other. record {
+    users = all-append _ first.passwd second.passwd one.users other.users;
+    ranges = leaves-composed.both first second one.ranges other.ranges;
+  };
+}
+
+-- groupmod leaves them: users of the old GID get the new one, and keep their UIDs
 script-leaves :
     (group : List ℕ) (request : Request) (files : Files)
-    → LeavesRanges (groupmod_script group request files)
+    → LeavesOthers (groupmod_script group request files)
 script-leaves group request files =
-    let gid = gid_part group (given_gid request) (group_named group files)
-    in let name = name_part group (value_of (codes "n") request)
-    in leaves-composed.both (hash_part group request files) (followed_by gid (followed_by name no_edits))
-    (hash-quiet group request files).ranges
-    (leaves-composed.both gid (followed_by name no_edits)
-    (gid-leaves group (given_gid request) (group_named group files))
-    (leaves-composed.both name no_edits (name-leaves group (value_of (codes "n") request)) leaves-composed.none))
+    let quiet = hash-quiet group request files
+    in let named = group_named group files
+    in all-hold others-composed (hash_part group request files
+    ∷ gid_part group (given_gid request) named
+    ∷ name_part group (value_of (codes "n") request)
+    ∷ []) (
+      record { users = quiet.passwd; ranges = quiet.ranges },
+      (
+        some-holds others-composed
+            (λ gid. elim named [ None ↦ no_edits | Some old ↦ set_gid group gid old ])
+            (given_gid request)
+            (λ gid is. some-holds others-composed (set_gid group gid) named (λ old found. record {
+              users = (
+                where-keys passwd_format uid_key (λ user. user.gid == old.gid)
+                    (λ user. record user { gid = gid }) (λ r. refl) (λ r. refl),
+                tt,
+              );
+              ranges = record { subuid = refl; subgid = refl };
+            })),
+        (
+          some-holds others-composed (rename_group group) (value_of (codes "n") request)
+              (λ name is. record { users = tt; ranges = record { subuid = refl; subgid = refl } }),
+          tt,
+        ),
+      ),
+    )
 
 -- ---- The IDs
 
@@ -200,16 +201,6 @@ module _ (group : List ℕ) (request : Request) (files : Files) where
       (all-append (AddsNone group_format (has_key gid_key id)) name_edits []
       (name-groups group (value_of (codes "n") request) id) tt)
 
-  -- the users
-  kept-users :
-      AllByRecursion (KeepsKeys passwd_format uid_key) (groupmod_script group request files).passwd
-  kept-users = all-turns (KeepsKeys passwd_format uid_key) (hash_part group request files).passwd
-      (gid_part group (given_gid request) (group_named group files)).passwd
-      (name_part group (value_of (codes "n") request)).passwd
-      (hash-quiet group request files).passwd
-      (gid-users group (given_gid request) (group_named group files))
-      (name-users group (value_of (codes "n") request))
-
   -- the whole
   script-apart :
       first_some (groupmod_refusals group request files) ≡ None
@@ -230,7 +221,7 @@ module _ (group : List ℕ) (request : Request) (files : Files) where
         uids = λ uid shares. gentle-table passwd_format (has_key uid_key uid) files.passwd
             (groupmod_script group request files).passwd
             (all-keys-keep passwd_format uid_key uid
-            (groupmod_script group request files).passwd kept-users);
+            (groupmod_script group request files).passwd leaves.users);
         gids = λ id shares. stays-table group_format (has_key gid_key id) files.group
             (groupmod_script group request files).group
             (groups-by id (given_gid request) (group_named group files)
@@ -239,10 +230,10 @@ module _ (group : List ℕ) (request : Request) (files : Files) where
             (map-none (λ name. Multiple Group name) _ single.1.1.0));
         subuids = λ n. gentle-table subid_format (has_number n) files.subuid
             (groupmod_script group request files).subuid
-            (leaves-gentle (groupmod_script group request files).subuid leaves.subuid n);
+            (leaves-gentle (groupmod_script group request files).subuid leaves.ranges.subuid n);
         subgids = λ n. gentle-table subid_format (has_number n) files.subgid
             (groupmod_script group request files).subgid
-            (leaves-gentle (groupmod_script group request files).subgid leaves.subgid n);
+            (leaves-gentle (groupmod_script group request files).subgid leaves.ranges.subgid n);
       }
 
 -- groupmod gives no GID to one more group, but where `-o` names it, and leaves UIDs and ranges
