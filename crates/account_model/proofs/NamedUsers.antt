@@ -28,7 +28,6 @@ use Rattle.account_model.specs.Edits.{Add, Put}
 use Rattle.account_model.specs.declared.new_user.Plan.{Plan}
 use Rattle.account_model.specs.Useradd.{new_user, add_own_group, add_user, join_groups, new_shadow, plan_of, useradd_script}
 use Rattle.account_model.specs.Usermod.{change_user, changed_group, changed_gshadow, changed_shadow, changed_user, is_listed_group, members_after, new_name, range_owner, subgid_change, subuid_change, uid_after, with_new_name}
-use Rattle.account_model.specs.Userdel.{own_group}
 use Rattle.account_model.specs.SubidOwner.{is_owned, left_without}
 use Rattle.account_model.specs.NamedLines.{Named, lists_any, named_by, names_group, names_gshadow, names_subid, owner_fields}
 use Rattle.account_model.proofs.ListLaws.{all-append}
