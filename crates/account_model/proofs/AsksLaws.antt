@@ -17,7 +17,8 @@ use Rattle.account_model.specs.declared.word_fault.WordFault.TheVariants.{TooFew
 use Rattle.account_model.specs.declared.given.Given.{Given}
 use Rattle.account_model.specs.Request.{Request}
 use Rattle.account_model.specs.Words.{tool_name, tools, tool_named, may_name, tool_for, past_limit, without_prefix, prefix_value, broken_rule, IsPrefix, AsksAs, Asks, request_by_rules, prefix_for, request_with, request_of_arguments, request_of_tool, request_within_limits, request_by_limit, request_as, request_of, fault_as, fault}
-use Rattle.account_model.specs.Options.{Word, OptionForm, with_value, root_form, option_forms, own_options, options_for, operands_of, most_operands}
+use Rattle.account_model.specs.Options.{Word, OptionForm, with_value}
+use Rattle.account_model.specs.ToolOptions.{root_form, option_forms, own_options, options_for, operands_of, most_operands}
 use Rattle.account_model.specs.Text.{hyphen}
 use Rattle.account_model.specs.Spelling.{Spelled, Arguments, form_of_letter, has_long_name, form_of_name, read_arguments}
 use Rattle.account_model.proofs.SpelledIsRead.{IsTable, spelled_is_read}

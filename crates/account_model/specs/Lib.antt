@@ -53,6 +53,10 @@ pub mod ChoiceLaws
 pub mod SubidOwner
 pub mod Dates
 pub mod Options
+pub mod ToolStatuses
+pub mod Rows
+pub mod SeenRows
+pub mod ToolOptions
 pub mod Spelling
 pub mod Words
 pub mod LineWords

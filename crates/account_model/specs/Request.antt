@@ -1,9 +1,9 @@
 -- What a command asks for: a tool, its options without `-P`, and its operands. Options are named by
 -- a text of one letter, such as `codes "g"`.
-use Rattle.std.specs.Prelude.{ℕ, Bool, true, false, List, [], ◌∷◌, ◌==◌, filter, filter_map, is_some, find, Option, slice_index, codes}
+use Rattle.std.specs.Prelude.{ℕ, Bool, true, false, List, [], ◌∷◌, ◌==◌, filter, filter_map, is_some, find, Option, slice_index}
 use Rattle.account_model.specs.declared.given.Given.{Given}
 use Rattle.account_model.specs.declared.tool.Tool.{Tool}
-use Rattle.account_model.specs.declared.tool.Tool.TheVariants.{Chage, Pwck, Grpck, Getsubids}
+use Rattle.account_model.specs.Rows.{Reporting, always, never, row_of, where_given}
 use Rattle.account_model.specs.Text.{last_of}
 
 -- a command: the tool, the folder whose `etc` it works on, the options in the order in which they
@@ -42,13 +42,11 @@ operand request = elim request.operands [ [] ↦ [] | name ∷ rest ↦ name ]
 
 -- the command only shows what stands: `pwck -r`, `grpck -r`, `getsubids` and `chage -l` (pwck(8),
 -- grpck(8), getsubids(1), chage(1))
-abbrev pub reports : Tool → Request → Bool
-reports Pwck request = has_option (codes "r") request
-reports Grpck request = has_option (codes "r") request
-reports Getsubids request = true
-reports Chage request = has_option (codes "l") request
-reports tool request = false
+abbrev pub reports : Reporting → Request → Bool
+reports never request = false
+reports (where_given letter tables) request = has_option letter request
+reports (always letter tables others) request = true
 
 -- it is such a command
 abbrev pub is_report : Request → Bool
-is_report request = reports request.tool request
+is_report request = reports (row_of request.tool).reporting request

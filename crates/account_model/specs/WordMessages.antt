@@ -1,11 +1,14 @@
 -- The statuses and the texts of faults of words. The texts are this profile's own.
-use Rattle.std.specs.Prelude.{ℕ, suc, Bool, false, not, ◌||◌, ◌==◌, if◌then◌else◌, bytes_eq, filter, find, map, List, [], ◌∷◌, ◌++◌, codes, decimal, Option, Some, None, unwrap_or, slice_get}
+use Rattle.std.specs.Prelude.{ℕ, suc, Bool, false, not, ◌&&◌, ◌||◌, ◌==◌, if◌then◌else◌, bytes_eq, find, List, [], ◌∷◌, ◌++◌, codes, decimal, Option, Some, None, unwrap_or, slice_get}
+use Rattle.std.specs.List.{list_any}
 use Rattle.account_model.specs.declared.tool.Tool.{Tool}
-use Rattle.account_model.specs.declared.tool.Tool.TheVariants.{Useradd, Usermod, Userdel, Groupadd, Groupmod, Gpasswd, Chage, Chpasswd, Pwck, Grpck, Getsubids, Batch}
+use Rattle.account_model.specs.declared.tool.Tool.TheVariants.{Batch}
 use Rattle.account_model.specs.declared.word_fault.WordFault.{WordFault}
 use Rattle.account_model.specs.declared.word_fault.WordFault.TheVariants.{LineEnd, Unclosed, WordLimit, NoTool, UnknownTool, UnknownOption, MissingValue, UnexpectedValue, TooMany, NoPrefix, EmptyPrefix, TooFew, Clash, Memory}
 use Rattle.acct_text.specs.Bytes.{is_empty}
-use Rattle.account_model.specs.Options.{Word, own_options, rule_texts}
+use Rattle.account_model.specs.Options.{Rule, Word}
+use Rattle.account_model.specs.Rows.{row_of}
+use Rattle.account_model.specs.ToolOptions.{own_options}
 use Rattle.account_model.specs.Spelling.{name_part}
 use Rattle.account_model.specs.Text.{hyphen, has_byte, is_listed}
 use Rattle.account_model.specs.Words.{tool_name, tool_named, tools}
@@ -37,45 +40,22 @@ unknown_text word = codes "unknown command " ++ word
       | Some tool ↦ codes " (" ++ tool_name tool ++ codes "?)"
     ]
 
--- the letters of the options that the wrapper by the old names takes beside those of the tool
-abbrev pub wrapper_letters : Tool → List ℕ
-wrapper_letters Useradd = codes "km"
-wrapper_letters Usermod = codes "bmr"
-wrapper_letters Userdel = codes "r"
-wrapper_letters Groupadd = codes "U"
-wrapper_letters Groupmod = codes "aU"
-wrapper_letters Chage = codes "i"
-wrapper_letters Chpasswd = codes "c"
-wrapper_letters tool = []
-
--- their long names
-abbrev pub wrapper_names : Tool → List Word
-wrapper_names Useradd = codes "badname" ∷ codes "create-home" ∷ codes "skel" ∷ []
-wrapper_names Usermod = codes "badname" ∷ codes "move-home" ∷ codes "remove" ∷ []
-wrapper_names Userdel = codes "remove" ∷ []
-wrapper_names Groupadd = codes "users" ∷ []
-wrapper_names Groupmod = codes "append" ∷ codes "users" ∷ []
-wrapper_names Gpasswd = codes "delete-password" ∷ []
-wrapper_names Chage = codes "iso8601" ∷ []
-wrapper_names Chpasswd = codes "crypt-method" ∷ []
-wrapper_names tool = []
-
--- the letters of the tool's flags, behind which a word may go on with another letter
-abbrev pub flag_letters : Tool → List ℕ
-flag_letters tool =
-    map (λ form. form.letter) (filter (λ form. not form.takes_value) (own_options tool))
+-- whether the tool has a flag of the letter, behind which a word may go on with another letter
+abbrev pub is_flag : Tool → ℕ → Bool
+is_flag tool letter =
+    list_any (λ form. not form.takes_value && form.letter == letter) (own_options tool)
 
 -- the unknown option among the letters behind a `-`: one that takes a value is the last of a word
 abbrev pub unknown_letter : Tool → Word → Option ℕ
-unknown_letter tool letters = find (λ letter. not (has_byte letter (flag_letters tool))) letters
+unknown_letter tool letters = find (λ letter. not (is_flag tool letter)) letters
 
 -- whether the wrapper takes the unknown option of a word, which begins with `-`
 abbrev pub is_for_wrapper : Tool → Word → Bool
 is_for_wrapper tool (c ∷ d ∷ rest) =
-    if d == hyphen then is_listed (name_part rest) (wrapper_names tool) else
+    if d == hyphen then is_listed (name_part rest) (row_of tool).wrapper_names else
     elim (unknown_letter tool (d ∷ rest)) [
       | None ↦ false
-      | Some letter ↦ has_byte letter (wrapper_letters tool)
+      | Some letter ↦ has_byte letter (row_of tool).wrapper_letters
     ]
 is_for_wrapper tool word = false
 
@@ -85,9 +65,13 @@ wrapper_hint None word = []
 wrapper_hint (Some tool) word =
     if is_for_wrapper tool word then codes " (the wrapper by the old names has it)" else []
 
+-- what is said of the rule at a place, from 0
+abbrev pub text_at : List Rule → ℕ → List ℕ
+text_at rules place = elim (slice_get rules place) [ None ↦ [] | Some rule ↦ rule.text ]
+
 -- what is said of the rule of this number, counted from 1
 abbrev pub rule_text : Option Tool → ℕ → List ℕ
-rule_text (Some tool) (suc place) = unwrap_or (slice_get (rule_texts tool) place) []
+rule_text (Some tool) (suc place) = text_at (row_of tool).rules place
 rule_text tool number = []
 
 -- what is printed of a fault of these words; want of memory is no fault of theirs, and says nothing here
@@ -116,10 +100,7 @@ word_fault_text words Memory = []
 
 -- the status of a usage error (useradd(8), pwck(8), "EXIT VALUES")
 abbrev pub syntax_status : Tool → ℕ
-syntax_status Pwck = 1
-syntax_status Grpck = 1
-syntax_status Getsubids = 1
-syntax_status tool = 2
+syntax_status tool = (row_of tool).statuses.syntax
 
 -- the tool that a fault speaks for; the faults that come before a tool is known have none
 abbrev pub faulty_tool : List Word → WordFault → Option Tool

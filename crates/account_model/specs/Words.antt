@@ -1,6 +1,6 @@
 -- What the words of a command, or of a line of a batch, ask for, and the first thing that is wrong
 -- with them: they are read as getopt_long(3) does, and then by the rules of the tool's manual page.
-use Rattle.std.specs.Prelude.{◌≡◌, ◌≢◌, ℕ, ◌+◌, ◌≤◌, true, false, not, ◌||◌, nat_le, nat_lt, if◌then◌else◌, Bool, List, [], ◌∷◌, length, filter, filter_map, find, position, Option, Some, None, option_map, Result, Ok, Err, bytes_eq, codes}
+use Rattle.std.specs.Prelude.{◌≡◌, ◌≢◌, ℕ, ◌+◌, ◌≤◌, true, false, not, ◌||◌, nat_le, nat_lt, if◌then◌else◌, Bool, List, [], ◌∷◌, length, filter, filter_map, find, position, Option, Some, None, option_map, Result, Ok, Err, bytes_eq}
 use Rattle.std.specs.List.{enumerate_from}
 use Rattle.account_model.specs.declared.words_of.WordsOf.{WordsOf}
 use Rattle.account_model.specs.declared.words_of.WordsOf.TheVariants.{Command, Line}
@@ -9,26 +9,16 @@ use Rattle.account_model.specs.declared.tool.Tool.TheVariants.{Useradd, Usermod,
 use Rattle.account_model.specs.declared.word_fault.WordFault.{WordFault}
 use Rattle.account_model.specs.declared.word_fault.WordFault.TheVariants.{WordLimit, NoTool, UnknownTool, NoPrefix, EmptyPrefix, TooFew, Clash}
 use Rattle.account_model.specs.Text.{last_of}
-use Rattle.account_model.specs.Options.{Word, is_prefix, options_for, operands_of, most_operands, rule_tests}
+use Rattle.account_model.specs.Options.{Word}
+use Rattle.account_model.specs.Rows.{row_of}
+use Rattle.account_model.specs.ToolOptions.{is_prefix, options_for, operands_of, most_operands}
 use Rattle.account_model.specs.declared.given.Given.{Given}
 use Rattle.account_model.specs.Request.{Request}
 use Rattle.account_model.specs.Spelling.{Spelled, Arguments, read_arguments}
 
 -- the word that names the tool
-abbrev pub tool_name : Tool → List ℕ
-tool_name Useradd = codes "useradd"
-tool_name Usermod = codes "usermod"
-tool_name Userdel = codes "userdel"
-tool_name Groupadd = codes "groupadd"
-tool_name Groupmod = codes "groupmod"
-tool_name Groupdel = codes "groupdel"
-tool_name Gpasswd = codes "gpasswd"
-tool_name Chage = codes "chage"
-tool_name Chpasswd = codes "chpasswd"
-tool_name Pwck = codes "pwck"
-tool_name Grpck = codes "grpck"
-tool_name Getsubids = codes "getsubids"
-tool_name Batch = codes "batch"
+abbrev pub tool_name : Tool → Word
+tool_name tool = (row_of tool).name
 
 -- the tools, in the order of the enum
 abbrev pub tools : List Tool
@@ -41,12 +31,7 @@ tool_named name = find (λ tool. bytes_eq (tool_name tool) name) tools
 
 -- whether a line of a batch may name the tool: it changes tables, and reads no input
 abbrev pub is_for_lines : Tool → Bool
-is_for_lines Chpasswd = false
-is_for_lines Pwck = false
-is_for_lines Grpck = false
-is_for_lines Getsubids = false
-is_for_lines Batch = false
-is_for_lines tool = true
+is_for_lines tool = (row_of tool).is_for_lines
 
 -- whether the tool carries out the lines of its input
 abbrev pub is_batch : Tool → Bool
@@ -87,7 +72,8 @@ prefix_value tool options =
 -- the first rule of the tool that is broken, counted from 1
 abbrev pub broken_rule : Tool → List Given → Option ℕ
 broken_rule tool options =
-    option_map (λ place. place + 1) (position (λ test. not (test options)) (rule_tests tool))
+    option_map (λ place. place + 1)
+    (position (λ rule. not (rule.is_kept options)) (row_of tool).rules)
 
 -- the prefix of a request: of a command the folder that was given, which isn't empty; that of a
 -- line of a batch is empty, as the batch has it

@@ -16,13 +16,17 @@ mod laws;
 mod line_laws;
 mod line_place;
 mod new_user;
+mod option_form;
 mod passwd_laws;
 mod records;
 mod refusal;
 mod renaming_laws;
+mod row;
+mod rows;
 mod settings;
 mod subid_laws;
 mod tool;
+mod tool_statuses;
 mod word_fault;
 mod word_laws;
 mod words_of;
@@ -40,15 +44,20 @@ pub use line_laws::{
 };
 pub use line_place::LinePlace;
 pub use new_user::{Allotment, Plan};
+pub use option_form::{OptionForm, Rule, Test};
 pub use passwd_laws::lock_then_unlock;
 pub use records::{
     GREATEST_DAYS, GREATEST_ID, GroupRecord, GshadowRecord, PasswdRecord, ShadowRecord, SubidRecord,
 };
 pub use refusal::{LineProblem, Refusal};
 pub use renaming_laws::lists_are_renamed;
+pub use row::{Reporting, ToolRow};
 pub use settings::{IdSort, Key, Kind};
 pub use subid_laws::ranges_are_cut;
 pub use tool::Tool;
+pub use tool_statuses::{
+    BAD_ARGUMENT, BAD_USAGE, GENERAL_FAILURE, PRIMARY_OF_USER, ToolStatuses, USED_ID, USED_NAME,
+};
 pub use word_fault::WordFault;
 pub use word_laws::{lines_read_back, words_have_one_reading};
 pub use words_of::WordsOf;

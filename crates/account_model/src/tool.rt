@@ -1,6 +1,10 @@
 //! The tools of the suite.
 ghost use Rattle.std.specs.Prelude.{◌≡◌};
+ghost use Rattle.account_model.specs.Rows.{row_of};
+ghost use Rattle.account_model.specs.SeenRows.{seen_row};
 ghost use Rattle.account_model.specs.Words.{tool_name, tools, tool_named};
+
+use crate::{ToolRow, rows};
 
 /// A tool, which word 0 of a command names.
 #[derive(Clone, Copy, Debug, PartialEq, Eq, Drop)]
@@ -55,25 +59,32 @@ impl Tool {
         ]
     }
 
+    /// The row of the tool.
+    pub fn row(self) -> &'static ToolRow
+        ensures { seen_row result.now ≡ row_of self }
+    {
+        match self {
+            Tool::Useradd => &rows::USERADD,
+            Tool::Usermod => &rows::USERMOD,
+            Tool::Userdel => &rows::USERDEL,
+            Tool::Groupadd => &rows::GROUPADD,
+            Tool::Groupmod => &rows::GROUPMOD,
+            Tool::Groupdel => &rows::GROUPDEL,
+            Tool::Gpasswd => &rows::GPASSWD,
+            Tool::Chage => &rows::CHAGE,
+            Tool::Chpasswd => &rows::CHPASSWD,
+            Tool::Pwck => &rows::PWCK,
+            Tool::Grpck => &rows::GRPCK,
+            Tool::Getsubids => &rows::GETSUBIDS,
+            Tool::Batch => &rows::BATCH,
+        }
+    }
+
     /// The word that names the tool.
     pub fn name(self) -> &'static str
         ensures { result.now ≡ tool_name self }
     {
-        match self {
-            Tool::Useradd => "useradd",
-            Tool::Usermod => "usermod",
-            Tool::Userdel => "userdel",
-            Tool::Groupadd => "groupadd",
-            Tool::Groupmod => "groupmod",
-            Tool::Groupdel => "groupdel",
-            Tool::Gpasswd => "gpasswd",
-            Tool::Chage => "chage",
-            Tool::Chpasswd => "chpasswd",
-            Tool::Pwck => "pwck",
-            Tool::Grpck => "grpck",
-            Tool::Getsubids => "getsubids",
-            Tool::Batch => "batch",
-        }
+        self.row().name
     }
 
     /// The tool that a word names, and none where it names no tool.

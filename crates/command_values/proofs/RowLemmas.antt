@@ -3,14 +3,15 @@
 -- each way to spell an option tells its row of the tool's table, by its letter or by its long name,
 -- and no two rows of a tool have one letter (`letters-apart`). The rows of the folder count for
 -- nothing among options without it.
-use Rattle.std.proofs.Common.{◌≡◌, ℕ, Bool, true, false, not, ◌&&◌, ◌==◌, List, [], ◌∷◌, length, refl, sym, ap, subst, ◌∙◌, inl, inr, eq-eqb, arith}
-use Rattle.std.specs.Prelude.{Option, Some, None, find, is_some}
-use Rattle.std.specs.List.{AllByRecursion, list_all}
-use Rattle.std.proofs.lemmas.Bool.{and_parts, cases_Bool, eqb-true, not-true}
+use Rattle.std.proofs.Common.{◌≡◌, ℕ, Bool, true, false, ◌==◌, List, [], ◌∷◌, length, refl, sym, ap, subst, ◌∙◌, inl, inr, eq-eqb, arith}
+use Rattle.std.specs.Prelude.{◌||◌, Option, Some, None, find, is_some}
+use Rattle.std.specs.List.{AllByRecursion, list_any}
+use Rattle.std.proofs.lemmas.Bool.{cases_Bool, eqb-true}
 use Rattle.account_model.specs.declared.given.Given.{Given}
 use Rattle.account_model.specs.declared.tool.Tool.{Tool}
-use Rattle.account_model.specs.declared.tool.Tool.TheVariants.{Batch}
-use Rattle.account_model.specs.Options.{Word, OptionForm, prefix_letter, root_letter, is_prefix, option_forms, own_options, operands_of, most_operands}
+use Rattle.account_model.specs.declared.tool.Tool.TheVariants.{Useradd}
+use Rattle.account_model.specs.Options.{Word, OptionForm}
+use Rattle.account_model.specs.ToolOptions.{prefix_letter, root_letter, is_prefix, option_forms, own_options, operands_of, most_operands}
 use Rattle.account_model.specs.Request.{Request, has_option, value_of, last_value, operand as operand_of}
 use Rattle.account_model.specs.Spelling.{form_of_letter, HasLetter, HasName, Spelled, nothing, end_of_options, operand, letter_flag, letter_bundle, letter_with_value, letter_then_value, name_flag, name_with_value, name_then_value}
 use Rattle.account_model.specs.Text.{last_of}
@@ -21,62 +22,67 @@ use Rattle.command_values.proofs.OptionLemmas.{values_in}
 
 -- ---- One row for each letter
 
--- the row of a letter is the only one with it
-abbrev IsOnlyRow : List OptionForm → OptionForm → Type 0
-IsOnlyRow table form = form_of_letter table form.letter ≡ Some form
+-- two options of a table have one letter
+abbrev has_twice : List OptionForm → Bool
+has_twice [] = false
+has_twice (form ∷ forms) =
+    list_any (λ other. other.letter == form.letter) forms || has_twice forms
 
--- no row has the letter of an earlier one
-abbrev are_apart : List OptionForm → Bool
-are_apart [] = true
-are_apart (form ∷ rest) =
-    list_all (λ other. not (form.letter == other.letter)) rest && are_apart rest
-
--- a row in front of others has its letter
-front-only : (form : OptionForm) (rest : List OptionForm) → IsOnlyRow (form ∷ rest) form
-front-only form rest = rw (eq-eqb form.letter form.letter refl) refl
-
--- one in front with other letters changes nothing
-behind-only :
-    (form : OptionForm) (table rows : List OptionForm)
-    → list_all (λ other. not (form.letter == other.letter)) rows ≡ true
-    → AllByRecursion (IsOnlyRow table) rows
-    → AllByRecursion (IsOnlyRow (form ∷ table)) rows
-behind-only form table [] others all = tt
-behind-only form table (row ∷ rows) others all =
-    let parts = and_parts (not (form.letter == row.letter)) _ others in (
-      rw (not-true (form.letter == row.letter) parts.0) all.0,
-      behind-only form table rows parts.1 all.1,
-    )
-
--- so each row is the only one with its letter
-rows-only :
-    (table : List OptionForm) → are_apart table ≡ true → AllByRecursion (IsOnlyRow table) table
-rows-only [] apart = tt
-rows-only (form ∷ rest) apart =
-    let parts = and_parts (list_all (λ other. not (form.letter == other.letter)) rest)
-    (are_apart rest) apart in
-    (front-only form rest, behind-only form rest rest parts.0 (rows-only rest parts.1))
-
--- no two rows of a tool have one letter
-letters-apart : (tool : Tool) → are_apart (option_forms tool) ≡ true
-letters-apart Batch = refl
+-- no two options of a tool do; the last line stands for each other tool
+letters-apart : (tool : Tool) → has_twice (option_forms tool) ≡ false
+letters-apart Useradd = refl
 letters-apart tool = refl
 
--- what holds of all holds of the one that is found
-holds-found :
-    {X : Type 0} (P : X → Type 0) (test : X → Bool) (xs : List X) (x : X)
-    → AllByRecursion P xs
-    → find test xs ≡ Some x
-    → P x
-holds-found P test [] x all found = absurd cc
-holds-found P test (first ∷ rest) x all found = elim (cases_Bool (test first)) [
-  | inl passes ↦
-      let same : Some first ≡ Some x = rw passes at found in
-      let is : first ≡ x = cc in subst P is all.0
-  | inr fails ↦ holds-found P test rest x all.1 (rw fails at found)
+-- what is another than a letter has that as another
+apart-turned : (first second : ℕ) → (first == second) ≡ false → (second == first) ≡ false
+apart-turned first second other = elim (cases_Bool (second == first)) [
+  | inl same ↦
+      let turned : first ≡ second = sym (eqb-true second first same) in
+      let wrong : false ≡ true = sym other ∙ eq-eqb first second turned in absurd (cc)
+  | inr different ↦ different
 ]
 
-module _ (table : List OptionForm) (apart : AllByRecursion (IsOnlyRow table) table) where
+-- what none passes isn't passed by the one that is found
+fails-found :
+    {X : Type 0} (test other : X → Bool) (xs : List X) (x : X)
+    → list_any other xs ≡ false
+    → find test xs ≡ Some x
+    → other x ≡ false
+fails-found test other [] x none found = absurd cc
+fails-found test other (first ∷ rest) x none found =
+    let fails = both_false (other first) (list_any other rest) none in
+    elim (cases_Bool (test first)) [
+      | inl passes ↦
+          let same : Some first ≡ Some x = rw passes at found in
+          let is : first ≡ x = cc in subst (λ one. other one ≡ false) is fails.0
+      | inr passes_not ↦ fails-found test other rest x fails.1 (rw passes_not at found)
+    ]
+
+-- the row that is found is the only one of its letter
+only-row :
+    (table : List OptionForm) (test : OptionForm → Bool) (form : OptionForm)
+    → has_twice table ≡ false
+    → find test table ≡ Some form
+    → form_of_letter table form.letter ≡ Some form
+only-row [] test form apart found = absurd cc
+only-row (first ∷ rest) test form apart found =
+    let has_first : OptionForm → Bool = λ other. other.letter == first.letter in
+    let parts = both_false (list_any has_first rest) (has_twice rest) apart in
+    elim (cases_Bool (test first)) [
+      | inl passes ↦
+          let same : Some first ≡ Some form = rw passes at found in
+          let is : first ≡ form = cc in
+          let own = eq-eqb first.letter first.letter refl in
+          subst (λ (one : OptionForm). form_of_letter (first ∷ rest) one.letter ≡ Some one) is
+          (rw own refl)
+      | inr passes_not ↦
+          let later : find test rest ≡ Some form = rw passes_not at found in
+          let other = fails-found test has_first rest form parts.0 later in
+          rw (apart-turned form.letter first.letter other)
+          (only-row rest test form parts.1 later)
+    ]
+
+module _ (table : List OptionForm) (apart : has_twice table ≡ false) where
   -- an option by its long name is one by its letter
   letter-of_name :
       (name : Word) (letter : ℕ) (takes_value : Bool)
@@ -85,7 +91,7 @@ module _ (table : List OptionForm) (apart : AllByRecursion (IsOnlyRow table) tab
   letter-of_name name letter takes_value has = record {
     form = has.form;
     found = subst (λ letter. form_of_letter table letter ≡ Some has.form) has.letter_is
-        (holds-found (IsOnlyRow table) _ table has.form apart has.found);
+        (only-row table _ has.form apart has.found);
     value = has.value;
   }
 
@@ -109,15 +115,6 @@ module _ (table : List OptionForm) (apart : AllByRecursion (IsOnlyRow table) tab
       (letter-of_name _ _ _ has, spelled-of_table _ _ _ rest)
 
 -- ---- The options but the prefix
-
--- what is another than a letter has that as another
-apart-turned : (first second : ℕ) → (first == second) ≡ false → (second == first) ≡ false
-apart-turned first second other = elim (cases_Bool (second == first)) [
-  | inl same ↦
-      let turned : first ≡ second = sym (eqb-true second first same) in
-      let wrong : false ≡ true = sym other ∙ eq-eqb first second turned in absurd (cc)
-  | inr different ↦ different
-]
 
 -- another letter than those of the folder is one of the tool's own
 own-letter :
@@ -151,7 +148,7 @@ pub asks-keeps_row :
 asks-keeps_row words request asks =
     let tool = request.tool in
     let all =
-    spelled-of_table (option_forms tool) (rows-only (option_forms tool) (letters-apart tool)) asks.arguments asks.given
+    spelled-of_table (option_forms tool) (letters-apart tool) asks.arguments asks.given
     request.operands asks.spelled in
     record {
       options = subst (AllByRecursion (IsOfTable (own_options tool))) (sym asks.options)

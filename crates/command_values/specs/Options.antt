@@ -3,7 +3,8 @@
 use Rattle.std.specs.Prelude.{◌≡◌, ℕ, ◌≤◌, ◌==◌, List, length, Option, None, is_some, if◌then◌else◌}
 use Rattle.std.specs.List.{AllByRecursion}
 use Rattle.account_model.specs.declared.given.Given.{Given}
-use Rattle.account_model.specs.Options.{OptionForm, own_options, operands_of, most_operands}
+use Rattle.account_model.specs.Options.{OptionForm}
+use Rattle.account_model.specs.ToolOptions.{own_options, operands_of, most_operands}
 use Rattle.account_model.specs.Spelling.{HasLetter}
 use Rattle.account_model.specs.Words.{broken_rule}
 use Rattle.account_model.specs.Request.{Request}

@@ -15,7 +15,8 @@ use Rattle.account_model.specs.declared.word_fault.WordFault.TheVariants.{Unknow
 use Rattle.account_model.specs.declared.tool.Tool.{Tool}
 use Rattle.account_model.specs.declared.words_of.WordsOf.{WordsOf}
 use Rattle.account_model.specs.Text.{last_of, has_byte, equals_sign}
-use Rattle.account_model.specs.Options.{Word, OptionForm, is_prefix, as_flag, as_value, options_for, most_operands}
+use Rattle.account_model.specs.Options.{Word, OptionForm, as_flag, as_value}
+use Rattle.account_model.specs.ToolOptions.{is_prefix, options_for, most_operands}
 use Rattle.account_model.specs.Request.{Request}
 use Rattle.account_model.specs.Spelling.{form_of_letter, form_of_name, WordReading, complete, waits_for_value, flag_before, value_behind, letter_reading, letters_reading, name_reading, name_reading_with, name_part, value_part, long_reading, Meaning, is_an_operand, has_options, word_meaning, Arguments, with_options, with_operand, read_word, read_arguments}
 use Rattle.account_model.specs.Words.{AsksAs, without_prefix, prefix_value, prefix_for, request_with, request_of_arguments, request_of_tool, request_as}

@@ -1,5 +1,3 @@
-pub mod Forms
-pub mod Rules
 pub mod Meanings
 pub mod Parsed
 pub mod Reading

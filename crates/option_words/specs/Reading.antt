@@ -1,10 +1,11 @@
 -- What a reading of words comes to: what was read, and what the words behind it add.
-use Rattle.std.specs.Prelude.{◌≡◌, ◌⊎◌, ℕ, suc, ◌-◌, ◌<◌, ◌==◌, if◌then◌else◌, List, [], ◌∷◌, ◌++◌, length, Some, None, Result, Ok, Err}
+use Rattle.std.specs.Prelude.{◌≡◌, ◌⊎◌, ℕ, suc, ◌-◌, ◌<◌, if◌then◌else◌, List, [], ◌∷◌, ◌++◌, length, Some, None, Result, Ok, Err}
 use Rattle.std.specs.Option.{option_or}
 use Rattle.account_model.specs.declared.given.Given.{Given}
 use Rattle.account_model.specs.declared.word_fault.WordFault.{WordFault}
 use Rattle.account_model.specs.declared.word_fault.WordFault.TheVariants.{Memory}
-use Rattle.account_model.specs.Options.{Word, OptionForm, is_prefix, options_for, most_operands}
+use Rattle.account_model.specs.Options.{Word, OptionForm}
+use Rattle.account_model.specs.ToolOptions.{is_prefix, options_for, most_operands}
 use Rattle.account_model.specs.Request.{Request}
 use Rattle.account_model.specs.Spelling.{WordReading, Arguments, has_options, read_operands, read_word, read_arguments}
 use Rattle.account_model.specs.Words.{without_prefix, prefix_value, prefix_for, request_with}

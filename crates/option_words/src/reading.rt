@@ -2,26 +2,17 @@
 // (getopt_long(3)).
 ghost use Rattle.std.specs.Prelude.{◌≡◌, ◌⊎◌, ℕ, suc, [], ◌∷◌, ◌++◌, OnOk, IfErr};
 ghost use Rattle.account_model.specs.Spelling.{letters_reading, long_reading, name_reading, name_reading_with, value_behind};
-ghost use Rattle.account_model.specs.Options.{is_prefix};
 ghost use Rattle.account_model.specs.Words.{prefix_for as prefix_by, request_of_tool, request_with};
-ghost use Rattle.option_words.specs.Forms.{form_of};
+ghost use Rattle.account_model.specs.SeenRows.{form_of};
 ghost use Rattle.option_words.specs.Reading.{Answers, AnswersReading, LeadsTo, ReadsOn, after_option, has_room, options_of_word, outcome_of, table_of};
 
-use crate::forms::{OptionForm, form_of_letter, form_of_name, most_operands, operands_of};
+use crate::forms::{form_of_letter, form_of_name, is_prefix};
 use crate::meaning::{Meaning, cut_at_equals, meaning_of};
 use crate::rules::broken_rule;
 use crate::{Options, Parsed};
-use account_model::{Given, Tool, WordFault, WordsOf};
+use account_model::{Given, OptionForm, Tool, WordFault, WordsOf};
 use acct_text::{Bytes, Names, Word};
 use std::alloc::{AllocError, Global};
-
-// The letter of the prefix, which isn't among the options of a request.
-const PREFIX: u8 = b'P';
-
-// The letter of the same by another name, of gpasswd and of the others.
-const GPASSWD_ROOT: u8 = b'Q';
-
-const ROOT: u8 = b'R';
 
 /// What the next word can be.
 #[derive(Clone, Copy)]
@@ -130,7 +121,7 @@ impl Reading {
         ensures fault { IfErr result (λ fault. (fault ≡ WordFault.Memory)
             ⊎ (¬ (has_room self.old) × (fault ≡ WordFault.TooMany place))) }
     {
-        if self.operands.len() >= most_operands(self.tool) {
+        if self.operands.len() >= self.tool.row().most {
             return Err(WordFault::TooMany(place));
         }
         Ok(self.operands.push(word)?)
@@ -257,7 +248,7 @@ impl Reading {
             ..
         } = self;
         let prefix = prefix_for(alloc, whose, prefix)?;
-        if operands.len() < operands_of(tool) {
+        if operands.len() < tool.row().least {
             return Err(WordFault::TooFew);
         }
         if let Some(rule) = broken_rule(tool, options.as_slice()) {
@@ -270,17 +261,6 @@ impl Reading {
             operands,
         })
     }
-}
-
-// Whether the option of a letter gives the prefix.
-fn is_prefix(tool: Tool, letter: u8) -> bool
-    ensures { result ≡ is_prefix tool letter }
-{
-    let root = match tool {
-        Tool::Gpasswd => GPASSWD_ROOT,
-        _ => ROOT,
-    };
-    letter == PREFIX || letter == root
 }
 
 // The prefix of such words by the folder that was given, or what is wrong with it.

@@ -2,11 +2,11 @@
 // (docs/ARCHITECTURE.md, "Reports").
 ghost use Rattle.std.specs.Prelude.{◌≡◌};
 ghost use Rattle.account_model.specs.Request.{is_report};
-ghost use Rattle.account_model.specs.SeenFiles.{read_tables, reported_tables};
+ghost use Rattle.account_model.specs.SeenFiles.{read_tables};
 ghost use Rattle.option_words.specs.Parsed.{request_in};
 
 use crate::parsed::Parsed;
-use account_model::Tool;
+use account_model::Reporting;
 use acct_text::Tab;
 
 // All six tables.
@@ -24,19 +24,10 @@ impl Parsed {
     pub fn is_report(&self) -> bool
         ensures { result ≡ is_report (request_in self.now) }
     {
-        match self.tool {
-            Tool::Pwck | Tool::Grpck => self.options.has(b'r'),
-            Tool::Chage => self.options.has(b'l'),
-            Tool::Getsubids => true,
-            Tool::Useradd
-            | Tool::Usermod
-            | Tool::Userdel
-            | Tool::Groupadd
-            | Tool::Groupmod
-            | Tool::Groupdel
-            | Tool::Gpasswd
-            | Tool::Chpasswd
-            | Tool::Batch => false,
+        match self.tool.row().reporting {
+            Reporting::Never => false,
+            Reporting::WhereGiven(letter, _) => self.options.has(letter),
+            Reporting::Always(..) => true,
         }
     }
 
@@ -45,32 +36,16 @@ impl Parsed {
     pub fn read_tables(&self) -> &'static [Tab]
         ensures { result.now ≡ read_tables (request_in self.now) }
     {
-        if self.is_report() {
-            self.reported_tables()
-        } else {
-            ALL
-        }
-    }
-
-    // The tables that a report of the tool reads.
-    fn reported_tables(&self) -> &'static [Tab]
-        ensures { result.now ≡ reported_tables self.now.tool (request_in self.now) }
-    {
-        match self.tool {
-            Tool::Pwck => &[Tab::Passwd, Tab::Shadow, Tab::Group],
-            Tool::Grpck => &[Tab::Passwd, Tab::Group, Tab::Gshadow],
-            Tool::Chage => &[Tab::Passwd, Tab::Shadow],
-            Tool::Getsubids if self.options.has(b'g') => &[Tab::Passwd, Tab::Subgid],
-            Tool::Getsubids => &[Tab::Passwd, Tab::Subuid],
-            Tool::Useradd
-            | Tool::Usermod
-            | Tool::Userdel
-            | Tool::Groupadd
-            | Tool::Groupmod
-            | Tool::Groupdel
-            | Tool::Gpasswd
-            | Tool::Chpasswd
-            | Tool::Batch => ALL,
+        match self.tool.row().reporting {
+            Reporting::WhereGiven(letter, tables) if self.options.has(letter) => tables,
+            Reporting::Always(letter, tables, others) => {
+                if self.options.has(letter) {
+                    tables
+                } else {
+                    others
+                }
+            }
+            _ => ALL,
         }
     }
 }

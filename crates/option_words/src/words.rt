@@ -75,10 +75,7 @@ fn may_name(whose: WordsOf, tool: Tool) -> bool
 {
     match whose {
         WordsOf::Command => true,
-        WordsOf::Line => !matches!(
-            tool,
-            Tool::Chpasswd | Tool::Pwck | Tool::Grpck | Tool::Getsubids | Tool::Batch
-        ),
+        WordsOf::Line => tool.row().is_for_lines,
     }
 }
 

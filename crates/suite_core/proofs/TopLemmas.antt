@@ -1,24 +1,17 @@
 -- Claims: the first word of a request names its tool (`named-asked`); words that ask for something
 -- have no fault (`no-fault`) and one request (`one-request`).
-use Rattle.std.proofs.Common.{◌≡◌, refl, sym, ap, ◌∙◌, ◌∷◌, List, Some, None}
-use Rattle.account_model.specs.declared.tool.Tool.{Tool}
-use Rattle.account_model.specs.declared.tool.Tool.TheVariants.{Batch}
+use Rattle.std.proofs.Common.{◌≡◌, sym, ap, ◌∙◌, List, Some, None}
 use Rattle.account_model.specs.declared.word_fault.WordFault.{WordFault}
-use Rattle.account_model.specs.Words.{tool_name, Asks, fault}
+use Rattle.account_model.specs.Words.{Asks, fault}
 use Rattle.account_model.specs.Options.{Word}
 use Rattle.account_model.specs.Request.{Request}
-use Rattle.account_model.proofs.AsksLaws.{one_request, asks_no_fault}
+use Rattle.account_model.proofs.AsksLaws.{one_request, asks_no_fault, tool_of_its_name}
 use Rattle.suite_course.specs.Top.{named_tool}
-
--- the name of a tool names it
-named : (tool : Tool) (arguments : List Word) → named_tool (tool_name tool ∷ arguments) ≡ Some tool
-named Batch arguments = refl
-named tool arguments = refl
 
 -- words that ask for a request name its tool
 pub named-asked : (words : List Word) (request : Request) → Asks words request →
     named_tool words ≡ Some request.tool
-named-asked words request asks = ap named_tool asks.tool ∙ named request.tool asks.arguments
+named-asked words request asks = ap named_tool asks.tool ∙ tool_of_its_name request.tool
 
 -- words that ask for something have no fault
 pub no-fault : (words : List Word) (request : Request) (found : WordFault) → Asks words request →

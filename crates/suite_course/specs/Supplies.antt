@@ -10,8 +10,8 @@ use Rattle.acct_outside.specs.declared.streams.SourceFault.TheVariants.{Failed, 
 use Rattle.acct_outside.specs.Faults.{Faults, HasRisen, LastFailed, NoneFailed}
 use Rattle.acct_outside.specs.Streams.{ClockMoment, SourceMoment, WhereBytesTold}
 use Rattle.account_model.specs.declared.tool.Tool.{Tool}
-use Rattle.account_model.specs.declared.tool.Tool.TheVariants.{Chpasswd, Batch}
 use Rattle.account_model.specs.BatchLines.{FaultyLine, first_faulty}
+use Rattle.account_model.specs.Rows.{row_of}
 use Rattle.account_model.specs.Words.{is_batch}
 use Rattle.suite_answers.specs.declared.cause.Which.TheVariants.{Input}
 use Rattle.suite_answers.specs.declared.cause.Cause.{Cause}
@@ -24,9 +24,7 @@ use Rattle.suite_course.specs.declared.supplies.Lack.TheVariants.{Supply, Line}
 
 -- the tool reads an input: the pairs of chpasswd(8), the lines of a batch
 abbrev pub reads_input : Tool → Bool
-reads_input Chpasswd = true
-reads_input Batch = true
-reads_input tool = false
+reads_input tool = (row_of tool).reads_input
 
 -- what a source has left where it tells, and its faults; the day that a clock last gave, and its faults
 pub record Supplies : Type 0 where

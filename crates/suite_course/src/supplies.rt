@@ -109,10 +109,7 @@ fn input_of<S: Source>(alloc: Global, tool: Tool, source: &mut S) -> Result<Byte
 fn reads_input(tool: Tool) -> bool
     ensures { result ≡ reads_input tool }
 {
-    match tool {
-        Tool::Chpasswd | Tool::Batch => true,
-        _ => false,
-    }
+    tool.row().reads_input
 }
 
 // Takes all that the source has left.

@@ -8,7 +8,8 @@ use Rattle.acct_text.specs.Pieces.{cut_at}
 use Rattle.account_model.specs.Text.{begins_with}
 use Rattle.account_model.specs.declared.tool.Tool.{Tool}
 use Rattle.account_model.specs.Words.{tool_name, tools}
-use Rattle.account_model.specs.Options.{OptionForm, Word, option_forms, rule_texts}
+use Rattle.account_model.specs.Options.{OptionForm, Word}
+use Rattle.account_model.specs.ToolOptions.{option_forms, rule_texts}
 
 -- the text begins so
 abbrev pub begins_so : List ℕ → List ℕ → Bool

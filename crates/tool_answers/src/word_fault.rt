@@ -4,16 +4,10 @@ ghost use Rattle.account_model.specs.Words.{tool_named};
 ghost use Rattle.account_model.specs.WordMessages.{faulty_tool, syntax_status, word_at, word_fault_message, word_fault_status, word_fault_text};
 
 use crate::{MEMORY_STATUS, push_line, rule_text, unknown_text, wrapper_hint};
-use account_model::{Tool, WordFault};
+use account_model::{BAD_USAGE, Tool, WordFault};
 use acct_text::Piece::{Number, Text};
 use acct_text::{Bytes, Word};
 use std::alloc::{AllocError, Global};
-
-// No tool is known, or its words make no sense.
-const BAD_WORDS: u8 = 2;
-
-// The words of a report make no sense.
-const BAD_REPORT_WORDS: u8 = 1;
 
 // There is no word.
 const NO_TOOL: &[u8] = b"no command given: accounts --help lists them";
@@ -47,7 +41,7 @@ pub fn word_fault_status(words: &[Word], fault: WordFault) -> u8
         return MEMORY_STATUS;
     }
     match faulty_tool(words, fault) {
-        None => BAD_WORDS,
+        None => BAD_USAGE,
         Some(tool) => syntax_status(tool),
     }
 }
@@ -77,10 +71,7 @@ fn named(words: &[Word]) -> Option<Tool>
 pub fn syntax_status(tool: Tool) -> u8
     ensures { result ≡ syntax_status tool }
 {
-    match tool {
-        Tool::Pwck | Tool::Grpck | Tool::Getsubids => BAD_REPORT_WORDS,
-        _ => BAD_WORDS,
-    }
+    tool.row().statuses.syntax
 }
 
 // The word at a place, counted from 0; past the end it is empty.

@@ -1,11 +1,13 @@
 // What is said of an option that only the wrapper by the old names takes.
-ghost use Rattle.std.specs.Prelude.{◌≡◌, bytes_eq};
+ghost use Rattle.std.specs.Prelude.{◌≡◌, ◌==◌, ◌&&◌, bytes_eq, not};
 ghost use Rattle.std.specs.List.{list_any};
+ghost use Rattle.account_model.specs.Rows.{row_of};
+ghost use Rattle.account_model.specs.SeenRows.{form_of};
 ghost use Rattle.account_model.specs.Text.{is_listed};
 ghost use Rattle.account_model.specs.Spelling.{name_part};
-ghost use Rattle.account_model.specs.WordMessages.{flag_letters, is_for_wrapper, unknown_letter, wrapper_hint, wrapper_letters, wrapper_names};
+ghost use Rattle.account_model.specs.WordMessages.{is_flag, is_for_wrapper, unknown_letter, wrapper_hint};
 
-use account_model::Tool;
+use account_model::{OptionForm, Tool};
 use acct_text::cut_once;
 
 /// What is said behind a word with an option that the tool doesn't take; empty where the wrapper
@@ -31,7 +33,7 @@ fn is_for_wrapper(tool: Tool, word: &[u8]) -> bool
         Some((b'-', text)) => is_wrapper_name(tool, name_part(text)),
         Some(_) => match unknown_letter(tool, behind) {
             None => false,
-            Some(letter) => wrapper_letters(tool).contains(&letter),
+            Some(letter) => tool.row().wrapper_letters.contains(&letter),
         },
     }
 }
@@ -48,19 +50,9 @@ fn name_part(text: &[u8]) -> &[u8]
 
 // Whether the wrapper alone has the option of this long name.
 fn is_wrapper_name(tool: Tool, name: &[u8]) -> bool
-    ensures { result ≡ is_listed name.now (wrapper_names tool) }
+    ensures { result ≡ is_listed name.now (row_of tool).wrapper_names }
 {
-    match tool {
-        Tool::Useradd => is_one_of(name, &["badname", "create-home", "skel"]),
-        Tool::Usermod => is_one_of(name, &["badname", "move-home", "remove"]),
-        Tool::Userdel => is_one_of(name, &["remove"]),
-        Tool::Groupadd => is_one_of(name, &["users"]),
-        Tool::Groupmod => is_one_of(name, &["append", "users"]),
-        Tool::Gpasswd => is_one_of(name, &["delete-password"]),
-        Tool::Chage => is_one_of(name, &["iso8601"]),
-        Tool::Chpasswd => is_one_of(name, &["crypt-method"]),
-        _ => false,
-    }
+    is_one_of(name, tool.row().wrapper_names)
 }
 
 // Whether the name is one of these.
@@ -74,44 +66,23 @@ fn is_one_of(name: &[u8], names: &[&str]) -> bool
 fn unknown_letter(tool: Tool, letters: &[u8]) -> Option<u8>
     ensures { result ≡ unknown_letter tool letters.now }
 {
-    let flags = flag_letters(tool);
     letters
         .iter()
         .copied()
-        .find(|letter| !flags.contains(letter))
+        .find(|letter| !is_flag(tool, *letter))
 }
 
-// The letters of the tool's flags.
-fn flag_letters(tool: Tool) -> &'static [u8]
-    ensures { result.now ≡ flag_letters tool }
+// Whether the tool has a flag of the letter.
+fn is_flag(tool: Tool, letter: u8) -> bool
+    ensures { result ≡ is_flag tool letter }
 {
-    match tool {
-        Tool::Useradd => b"FlMNorU",
-        Tool::Usermod => b"aLoU",
-        Tool::Userdel | Tool::Groupdel => b"f",
-        Tool::Groupadd => b"for",
-        Tool::Groupmod => b"o",
-        Tool::Gpasswd => b"rR",
-        Tool::Chage => b"l",
-        Tool::Chpasswd | Tool::Batch => b"e",
-        Tool::Pwck => b"qrs",
-        Tool::Grpck => b"rs",
-        Tool::Getsubids => b"g",
-    }
+    has_flag(tool.row().options, letter)
 }
 
-// The letters of the options that the wrapper alone has.
-fn wrapper_letters(tool: Tool) -> &'static [u8]
-    ensures { result.now ≡ wrapper_letters tool }
+fn has_flag(forms: &[OptionForm], letter: u8) -> bool
+    ensures { result ≡ list_any (λ form. not (form_of form).takes_value && (form_of form).letter == letter) forms.now }
 {
-    match tool {
-        Tool::Useradd => b"km",
-        Tool::Usermod => b"bmr",
-        Tool::Userdel => b"r",
-        Tool::Groupadd => b"U",
-        Tool::Groupmod => b"aU",
-        Tool::Chage => b"i",
-        Tool::Chpasswd => b"c",
-        _ => b"",
-    }
+    forms
+        .iter()
+        .any(|form| !form.takes_value() && form.letter() == letter)
 }

@@ -2,7 +2,7 @@ use Rattle.std.proofs.Common.{◌≡◌, ◌∙◌, ap, sym, inr, Bool, true, fa
 use Rattle.std.specs.Prelude.{if◌then◌else◌}
 use Rattle.std.proofs.lemmas.List.{nil_from_length}
 use Rattle.account_model.specs.Spelling.{WordReading, letters_reading, letter_reading, value_behind, flag_before}
-use Rattle.option_words.specs.Forms.{form_of}
+use Rattle.account_model.specs.SeenRows.{form_of}
 use Rattle.option_words.specs.Reading.{table_of, options_of_word}
 use Rattle.option_words.proofs.ReadingLemmas.{letters_reading-cons, options_of_word-flag, options_of_word-nothing}
 use Rattle.option_words.proofs.reading.Reading.take_letters.Goals as goal

@@ -1,7 +1,7 @@
 use Rattle.std.proofs.Common.{◌∙◌, suc, ap, inr, Some, option_map}
 use Rattle.std.specs.Option.{option_copied}
 use Rattle.account_model.specs.Spelling.{name_reading_with, long_reading}
-use Rattle.option_words.specs.Forms.{form_of}
+use Rattle.account_model.specs.SeenRows.{form_of}
 use Rattle.option_words.specs.Reading.{table_of, options_of_word}
 use Rattle.option_words.proofs.ReadingLemmas.{ReadsOn-before, named_reading, named_reading-none, long_reading-found}
 use Rattle.option_words.proofs.reading.Reading.take_long.Goals as goal

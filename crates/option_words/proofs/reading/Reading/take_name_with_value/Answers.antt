@@ -3,7 +3,7 @@ use Rattle.std.specs.Prelude.{if◌then◌else◌}
 use Rattle.account_model.specs.declared.word_fault.WordFault.TheVariants.{UnexpectedValue}
 use Rattle.account_model.specs.Options.{as_value}
 use Rattle.account_model.specs.Spelling.{WordReading, complete}
-use Rattle.option_words.specs.Forms.{form_of}
+use Rattle.account_model.specs.SeenRows.{form_of}
 use Rattle.option_words.specs.Reading.{after_option, options_of_word, outcome_of}
 use Rattle.option_words.proofs.ReadingLemmas.{complete-leads}
 use Rattle.option_words.proofs.reading.Reading.take_name_with_value.Goals as goal

@@ -1,0 +1,243 @@
+-- The row of each tool: what its manual page says in lists and numbers. The choice of options and the
+-- rules are this profile's own after the manual pages.
+use Rattle.std.specs.Prelude.{ℕ, Bool, true, false, List, [], ◌∷◌, codes}
+use Rattle.std.specs.Str.{byte}
+use Rattle.acct_text.specs.declared.Tab.{Tab}
+use Rattle.acct_text.specs.declared.Tab.TheVariants.{Passwd, Shadow, Group, Gshadow, Subuid, Subgid}
+use Rattle.account_model.specs.declared.tool.Tool.{Tool}
+use Rattle.account_model.specs.declared.tool.Tool.TheVariants.{Useradd, Usermod, Userdel, Groupadd, Groupmod, Groupdel, Gpasswd, Chage, Chpasswd, Pwck, Grpck, Getsubids, Batch}
+use Rattle.account_model.specs.Options.{Word, OptionForm, Rule, alone, flag, not_both, one_of, only_with, rule, short_flag, some_of, some_option, with_value}
+use Rattle.account_model.specs.declared.tool_statuses.ToolStatuses.{ToolStatuses}
+use Rattle.account_model.specs.ToolStatuses.{chage_statuses, check_statuses, common_statuses, getsubids_statuses, gpasswd_statuses, group_statuses, user_statuses}
+
+-- when a command of the tool only shows what stands, and the tables that it then reads
+pub data Reporting : Type 0 where
+  -- it never does
+  never : Reporting
+  -- where the option of this letter is given
+  where_given : Word → List Tab → Reporting
+  -- always: of these tables where the option of this letter is given, and else of those
+  always : Word → List Tab → List Tab → Reporting
+
+-- what is said of a tool in lists and numbers
+pub record ToolRow : Type 0 where
+  -- the word that names it
+  pub name : Word
+  -- the letter of `--root`, which is `--prefix` here: no tool changes its root
+  pub root : ℕ
+  -- its options but those of the folder, in the order of its page ("OPTIONS")
+  pub options : List OptionForm
+  -- how many operands it needs, and how many it takes at most ("SYNOPSIS")
+  pub least : ℕ
+  pub most : ℕ
+  -- the rules between its options, in the order in which they are tested
+  pub rules : List Rule
+  -- whether it reads the input
+  pub reads_input : Bool
+  -- whether a line of a batch may name it: it changes tables, and reads no input
+  pub is_for_lines : Bool
+  pub reporting : Reporting
+  pub statuses : ToolStatuses
+  -- the letters of the options that the wrapper by the old names takes beside these, and their names
+  pub wrapper_letters : List ℕ
+  pub wrapper_names : List Word
+
+-- what most rows have: a tool that changes the tables, and has one operand, the user or the group
+abbrev common_row : ToolRow
+common_row = record {
+  name = [];
+  root = byte "R";
+  options = [];
+  least = 1;
+  most = 1;
+  rules = [];
+  reads_input = false;
+  is_for_lines = true;
+  reporting = never;
+  statuses = common_statuses;
+  wrapper_letters = [];
+  wrapper_names = [];
+}
+
+-- an option is asked for
+abbrev wants_option : Rule
+wants_option = rule "at least one option besides -P is needed" some_option
+
+-- a check, which has no operand: a report or an edit, and not both (pwck(8), grpck(8))
+abbrev check_row : ToolRow
+check_row = record common_row {
+  least = 0;
+  most = 0;
+  rules = rule "-r or -s is needed" (some_of (codes "rs"))
+      ∷ rule "-r and -s exclude each other" (not_both (byte "r") (byte "s"))
+      ∷ [];
+  is_for_lines = false;
+  statuses = check_statuses;
+}
+
+-- the row of each tool (its manual page)
+abbrev pub row_of : Tool → ToolRow
+row_of Useradd = record common_row {
+  name = codes "useradd";
+  options = with_value "b" "base-dir"
+      ∷ with_value "c" "comment"
+      ∷ with_value "d" "home-dir"
+      ∷ with_value "e" "expiredate"
+      ∷ with_value "f" "inactive"
+      ∷ flag "F" "add-subids-for-system"
+      ∷ with_value "g" "gid"
+      ∷ with_value "G" "groups"
+      ∷ with_value "K" "key"
+      ∷ flag "l" "no-log-init"
+      ∷ flag "M" "no-create-home"
+      ∷ flag "N" "no-user-group"
+      ∷ flag "o" "non-unique"
+      ∷ with_value "p" "password"
+      ∷ flag "r" "system"
+      ∷ with_value "s" "shell"
+      ∷ with_value "u" "uid"
+      ∷ flag "U" "user-group"
+      ∷ [];
+  rules = rule "-g and -U exclude each other" (not_both (byte "g") (byte "U"))
+      ∷ rule "-N and -U exclude each other" (not_both (byte "N") (byte "U"))
+      ∷ rule "-o needs -u" (only_with (byte "o") (byte "u"))
+      ∷ [];
+  statuses = user_statuses;
+  wrapper_letters = codes "km";
+  wrapper_names = codes "badname" ∷ codes "create-home" ∷ codes "skel" ∷ [];
+}
+row_of Usermod = record common_row {
+  name = codes "usermod";
+  options = flag "a" "append"
+      ∷ with_value "c" "comment"
+      ∷ with_value "d" "home"
+      ∷ with_value "e" "expiredate"
+      ∷ with_value "f" "inactive"
+      ∷ with_value "g" "gid"
+      ∷ with_value "G" "groups"
+      ∷ with_value "l" "login"
+      ∷ flag "L" "lock"
+      ∷ flag "o" "non-unique"
+      ∷ with_value "p" "password"
+      ∷ with_value "s" "shell"
+      ∷ with_value "u" "uid"
+      ∷ flag "U" "unlock"
+      ∷ with_value "v" "add-subuids"
+      ∷ with_value "V" "del-subuids"
+      ∷ with_value "w" "add-subgids"
+      ∷ with_value "W" "del-subgids"
+      ∷ [];
+  rules = rule "-a needs -G" (only_with (byte "a") (byte "G"))
+      ∷ rule "-o needs -u" (only_with (byte "o") (byte "u"))
+      ∷ rule "-L, -U and -p exclude each other" (one_of (codes "LUp"))
+      ∷ wants_option
+      ∷ [];
+  statuses = user_statuses;
+  wrapper_letters = codes "bmr";
+  wrapper_names = codes "badname" ∷ codes "move-home" ∷ codes "remove" ∷ [];
+}
+row_of Userdel = record common_row {
+  name = codes "userdel";
+  options = flag "f" "force" ∷ [];
+  statuses = user_statuses;
+  wrapper_letters = codes "r";
+  wrapper_names = codes "remove" ∷ [];
+}
+row_of Groupadd = record common_row {
+  name = codes "groupadd";
+  options = flag "f" "force"
+      ∷ with_value "g" "gid"
+      ∷ with_value "K" "key"
+      ∷ flag "o" "non-unique"
+      ∷ with_value "p" "password"
+      ∷ flag "r" "system"
+      ∷ [];
+  rules = rule "-o needs -g" (only_with (byte "o") (byte "g")) ∷ [];
+  statuses = group_statuses;
+  wrapper_letters = codes "U";
+  wrapper_names = codes "users" ∷ [];
+}
+row_of Groupmod = record common_row {
+  name = codes "groupmod";
+  options = with_value "g" "gid"
+      ∷ with_value "n" "new-name"
+      ∷ flag "o" "non-unique"
+      ∷ with_value "p" "password"
+      ∷ [];
+  rules = rule "-o needs -g" (only_with (byte "o") (byte "g"))
+      ∷ rule "-g, -n or -p is needed" (some_of (codes "gnp"))
+      ∷ [];
+  statuses = group_statuses;
+  wrapper_letters = codes "aU";
+  wrapper_names = codes "append" ∷ codes "users" ∷ [];
+}
+row_of Groupdel = record common_row {
+  name = codes "groupdel";
+  options = flag "f" "force" ∷ [];
+  statuses = group_statuses;
+}
+row_of Gpasswd = record common_row {
+  name = codes "gpasswd";
+  root = byte "Q";
+  options = with_value "a" "add"
+      ∷ with_value "d" "delete"
+      ∷ with_value "A" "administrators"
+      ∷ with_value "M" "members"
+      ∷ flag "r" "remove-password"
+      ∷ flag "R" "restrict"
+      ∷ [];
+  rules = wants_option ∷ rule "only -A and -M go together" (alone (codes "adrR")) ∷ [];
+  statuses = gpasswd_statuses;
+  wrapper_names = codes "delete-password" ∷ [];
+}
+row_of Chage = record common_row {
+  name = codes "chage";
+  options = with_value "d" "lastday"
+      ∷ with_value "E" "expiredate"
+      ∷ with_value "I" "inactive"
+      ∷ flag "l" "list"
+      ∷ with_value "m" "mindays"
+      ∷ with_value "M" "maxdays"
+      ∷ with_value "W" "warndays"
+      ∷ [];
+  rules = wants_option ∷ rule "-l goes with no other option" (alone (codes "l")) ∷ [];
+  reporting = where_given (codes "l") (Passwd ∷ Shadow ∷ []);
+  statuses = chage_statuses;
+  wrapper_letters = codes "i";
+  wrapper_names = codes "iso8601" ∷ [];
+}
+row_of Chpasswd = record common_row {
+  name = codes "chpasswd";
+  options = flag "e" "encrypted" ∷ [];
+  least = 0;
+  most = 0;
+  rules = rule "-e is needed" (some_of (codes "e")) ∷ [];
+  reads_input = true;
+  is_for_lines = false;
+  wrapper_letters = codes "c";
+  wrapper_names = codes "crypt-method" ∷ [];
+}
+row_of Pwck = record check_row {
+  name = codes "pwck";
+  options = flag "q" "quiet" ∷ flag "r" "read-only" ∷ flag "s" "sort" ∷ [];
+  reporting = where_given (codes "r") (Passwd ∷ Shadow ∷ Group ∷ []);
+}
+row_of Grpck = record check_row {
+  name = codes "grpck";
+  options = flag "r" "read-only" ∷ flag "s" "sort" ∷ [];
+  reporting = where_given (codes "r") (Passwd ∷ Group ∷ Gshadow ∷ []);
+}
+row_of Getsubids = record common_row {
+  name = codes "getsubids";
+  options = short_flag "g" ∷ [];
+  is_for_lines = false;
+  reporting = always (codes "g") (Passwd ∷ Subgid ∷ []) (Passwd ∷ Subuid ∷ []);
+  statuses = getsubids_statuses;
+}
+row_of Batch = record common_row {
+  name = codes "batch";
+  options = flag "e" "ensure" ∷ [];
+  least = 0;
+  reads_input = true;
+  is_for_lines = false;
+}
