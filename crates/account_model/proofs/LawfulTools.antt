@@ -9,6 +9,7 @@ use Rattle.account_model.specs.Text.{first_some}
 use Rattle.account_model.specs.Settings.{Setting}
 use Rattle.account_model.specs.Tables.{no_edits}
 use Rattle.account_model.specs.Request.{Request, reports}
+use Rattle.account_model.specs.Rows.{row_of}
 use Rattle.account_model.specs.Words.{broken_rule, is_for_lines}
 use Rattle.account_model.specs.Action.{Action}
 use Rattle.account_model.specs.Change.{action_by}
@@ -38,7 +39,7 @@ pub record LawfulAct (tool : Tool) (request : Request) (input : List ℕ) (day :
   -- what it does is plain
   pub plain : IsPlain (action_by tool request input day files settings)
   -- a report edits nothing
-  pub report : broken_rule tool request.options ≡ None → reports tool request ≡ true
+  pub report : broken_rule tool request.options ≡ None → reports (row_of tool).reporting request ≡ true
       → (action_by tool request input day files settings).script ≡ no_edits
   -- a line of a batch sorts nothing
   pub line : is_for_lines tool ≡ true → sorts_by tool request ≡ false
@@ -53,7 +54,7 @@ pub quiet-act :
     {tool : Tool} {request : Request} {input : List ℕ} {day : ℕ} {files : Files}
     {settings : List Setting}
     → (action_by tool request input day files settings).status ≡ 0
-    → reports tool request ≡ false
+    → reports (row_of tool).reporting request ≡ false
     → sorts_by tool request ≡ false
     → (first_some (action_by tool request input day files settings).refusals ≡ None
     → IsLawful day (gives_ids tool) (sorts_by tool request) (named_by tool request input files)

@@ -1,4 +1,4 @@
--- passwd prints only records that read back (`passwd-written`), whatever it is asked for. Way: a hash that is locked,
+-- passwd is lawful (`passwd-script-lawful`), and so prints only records that read back (`passwd-written`). Way: a hash that is locked,
 -- unlocked or emptied can stand in a field, and a value that isn't a number of days leaves its field.
 use Rattle.std.proofs.Common.{ℕ, Bool, true, false, List, [], ◌∷◌, arith}
 use Rattle.std.specs.Prelude.{Option, Some, codes, if◌then◌else◌}
@@ -7,6 +7,7 @@ use Rattle.account_model.specs.declared.records.ShadowRecord.{ShadowRecord}
 use Rattle.account_model.specs.Format.{is_named}
 use Rattle.account_model.specs.Records.{shadow_format}
 use Rattle.account_model.specs.Written.{IsField, IsDaysNumber, IsShadow}
+use Rattle.account_model.specs.NamedLines.{Named, names_nothing}
 use Rattle.account_model.specs.WrittenScript.{IsWrittenScript}
 use Rattle.account_model.specs.Tables.{no_edits}
 use Rattle.account_model.specs.Values.{days_value}
@@ -14,10 +15,12 @@ use Rattle.account_model.specs.Hashes.{demand_shadow, each_user_hash}
 use Rattle.account_model.specs.Request.{Request, has_option, operand}
 use Rattle.account_model.specs.Passwd.{sets_password_aging, password_after, with_password_aging, set_password_aging, passwd_script}
 use Rattle.account_model.proofs.AgingToolScripts.{days-held}
-use Rattle.account_model.proofs.HeldLaws.{shadow-holds, each_where-written}
 use Rattle.account_model.proofs.RefusalFacts.{field-kept}
 use Rattle.account_model.proofs.UsermodScripts.{either-field, locked-hash-field, unlocked-hash-field}
-use Rattle.account_model.proofs.WrittenScripts.{none-written, users-written, order-written, either-written, demand-shadow-written, user-hash-written}
+use Rattle.account_model.proofs.ComposedScripts.{all-hold, either-holds}
+use Rattle.account_model.proofs.LawfulParts.{demand-lawful, hash-lawful, shadow-lawful}
+use Rattle.account_model.proofs.LawfulScripts.{IsLawful, lawful-composed, written-small}
+use Rattle.account_model.proofs.NamedParts.{first-has}
 
 -- the new hash
 password-after-field :
@@ -56,27 +59,34 @@ aging-held request r is = record {
   rest = is.rest;
 }
 
--- all edits
-pub passwd-written :
-    (request : Request) (files : Files)
-    → IsWrittenScript (passwd_script request files)
-passwd-written request files = order-written
+-- the edits of passwd
+pub passwd-script-lawful :
+    {day : ℕ} (request : Request) (files : Files)
+    → IsLawful day false false (record names_nothing { users = operand request ∷ [] })
+    (passwd_script request files)
+passwd-script-lawful request files =
+    let named : Named = record names_nothing { users = operand request ∷ [] }
+    in let has = first-has (operand request) []
+    in all-hold (lawful-composed named)
     (demand_shadow (operand request) files
     ∷ each_user_hash (operand request) (password_after request) files
     ∷ (if sets_password_aging request then set_password_aging request else no_edits) ∷ []) (
-      demand-shadow-written (operand request) files,
+      demand-lawful named (operand request) has files,
       (
-        user-hash-written (operand request) (password_after request) files
+        hash-lawful named (operand request) has (password_after request) files
             (password-after-field request),
         (
-          either-written (sets_password_aging request) (set_password_aging request) no_edits
-              (users-written [] _ tt (
-                each_where-written shadow_format IsShadow shadow-holds
-                    (is_named shadow_format (operand request)) (with_password_aging request)
-                    (aging-held request),
-                tt,
-              )) none-written,
+          either-holds (lawful-composed named) (sets_password_aging request)
+              (set_password_aging request) no_edits
+              (shadow-lawful named (operand request) has (with_password_aging request)
+              (λ small. aging-held request)) (lawful-composed named).none,
           tt,
         ),
       ),
     )
+
+-- so it prints only records that read back
+pub passwd-written :
+    (request : Request) (files : Files) → IsWrittenScript (passwd_script request files)
+passwd-written request files =
+    written-small {day = 0} (passwd-script-lawful request files).written (omega arith)
