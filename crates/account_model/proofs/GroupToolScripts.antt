@@ -43,7 +43,7 @@ use Rattle.account_model.proofs.LawfulParts.{administrators-lawful, group-hash-l
 use Rattle.account_model.proofs.LawfulScripts.{IsLawful, lawful, lawful-composed}
 use Rattle.account_model.proofs.LawfulTools.{LawfulTool, by-choice, quiet-act}
 use Rattle.account_model.proofs.MemberLaws.{with-listed, without-listed}
-use Rattle.account_model.proofs.NamedLaws.{where-spares}
+use Rattle.account_model.proofs.NamedLaws.{where-spares, passwd-parts}
 use Rattle.account_model.proofs.NamedParts.{each-spares, first-has, new-group-spares, removed-spares}
 
 -- ---- groupdel
@@ -273,8 +273,7 @@ module _ (request : Request) (files : Files) where
               (λ user. record user { gid = gid })
               (λ r none. (or_parts (r.gid == old.gid) false
               (ap (list_any (λ other. r.gid == other)) are
-              ∙ (or_parts (is_listed r.name groupmod_names.users)
-              (list_any (λ other. r.gid == other) groupmod_names.gids) none).1)).0),
+              ∙ (passwd-parts groupmod_names r none).1)).0),
           tt,
         );
         shadow = tt;

@@ -22,7 +22,7 @@ use Rattle.account_model.proofs.ComposedScripts.{either-holds, some-holds}
 use Rattle.account_model.proofs.KeptIds.{groups-keep, users-keep, where-keeps}
 use Rattle.account_model.proofs.LawfulScripts.{IsLawful, lawful, lawful-composed}
 use Rattle.account_model.proofs.NamedLaws.{found-named, groups-spare, users-spare, where-spares}
-use Rattle.account_model.proofs.NamedParts.{each-gshadow-spares, each-spares, make-group-spares, make-spares, other-user}
+use Rattle.account_model.proofs.NamedParts.{each-gshadow-spares, each-spares, make-group-spares, make-spares, other-shadow, other-user}
 use Rattle.account_model.proofs.RefusalFacts.{user-held, group-held}
 use Rattle.account_model.proofs.HeldLaws.{passwd-holds, shadow-holds, group-holds, gshadow-holds, each_where-written}
 use Rattle.account_model.proofs.WrittenScripts.{group-password-held, groups-written, make-gshadow-written, make-shadow-written, password-held, users-written}
@@ -73,8 +73,11 @@ module _ {day : ℕ} {gives sorts : Bool} (named : Named) (user : List ℕ)
       subuid = tt;
       subgid = tt;
     };
-    spares = users-spare [] _ tt
-        (where-spares shadow_format sorts _ (is_named shadow_format user) f (λ r. has r.name), tt);
+    spares = users-spare [] _ tt (
+      where-spares shadow_format sorts _ (is_named shadow_format user) f
+          (other-shadow named user has),
+      tt,
+    );
     keep = λ none. users-keep [] _ tt;
   }
 

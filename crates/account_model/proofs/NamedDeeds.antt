@@ -19,7 +19,7 @@ use Rattle.account_model.specs.BatchLines.{LineRequest, line_requests}
 use Rattle.account_model.specs.DeedLines.{DeedsKeepOrder, edits_of_deed, edits_of_lines, edits_on, is_sort}
 use Rattle.account_model.specs.NamedLines.{DeedsTouchNamed, Named, lists_any, named_by, named_by_both, named_by_deed, named_by_lines, names_group, names_gshadow, names_nothing, names_passwd}
 use Rattle.account_model.proofs.LineTools.{lines-for-lines}
-use Rattle.account_model.proofs.NamedLaws.{NamesWithin, SparesUnnamed, spares-composed, spares-order, spares-untouched, wider-spares}
+use Rattle.account_model.proofs.NamedLaws.{NamesWithin, SparesUnnamed, group-parts, gshadow-parts, passwd-parts, shadow-parts, spares-composed, spares-order, spares-untouched, wider-spares}
 use Rattle.account_model.proofs.ComposedScripts.{outcome-holds}
 use Rattle.account_model.proofs.ToolLaws.{meaning}
 
@@ -69,77 +69,71 @@ module _ (one other : Named) where
   abbrev both : Named
   both = named_by_both one other
 
-  -- the parts of what isn't named in passwd
-  passwd-parts :
-      (r : PasswdRecord)
-      → names_passwd both r ≡ false
-      → (is_listed r.name both.users ≡ false)
-      × (list_any (λ gid. r.gid == gid) both.gids ≡ false)
-  passwd-parts r none =
-      or_parts (is_listed r.name both.users) (list_any (λ gid. r.gid == gid) both.gids) none
-
-  -- in group
-  group-parts :
-      (r : GroupRecord)
-      → names_group both r ≡ false
-      → (is_listed r.name both.groups ≡ false) × (lists_any r.members both.users ≡ false)
-  group-parts r none =
-      or_parts (is_listed r.name both.groups) (lists_any r.members both.users) none
-
-  -- in gshadow
-  gshadow-parts :
-      (r : GshadowRecord)
-      → names_gshadow both r ≡ false
-      → (is_listed r.name both.groups ≡ false) × (lists_any r.members both.users ≡ false)
-      × (lists_any r.administrators both.users ≡ false)
-  gshadow-parts r none =
-      let parts = or_parts (is_listed r.name both.groups)
-      (lists_any r.members both.users || lists_any r.administrators both.users) none
-      in let lists = or_parts (lists_any r.members both.users)
-      (lists_any r.administrators both.users) parts.1
-      in (parts.0, lists.0, lists.1)
-
   -- both name what the first does
   pub front-within : NamesWithin one both
   front-within = record {
-    passwd = λ r none. let parts = passwd-parts r none in
-        or_from (is_listed r.name one.users) (list_any (λ gid. r.gid == gid) one.gids)
+    passwd = λ r none. let parts = passwd-parts both r none in
+        or_from (is_listed r.name one.users)
+        (list_any (λ gid. r.gid == gid) one.gids || one.all_users)
         (not-front (bytes_eq r.name) one.users other.users parts.0)
-        (not-front (λ gid. r.gid == gid) one.gids other.gids parts.1);
-    shadow = λ r. not-front (bytes_eq r.name) one.users other.users;
-    group = λ r none. let parts = group-parts r none in
-        or_from (is_listed r.name one.groups) (lists_any r.members one.users)
+        (or_from (list_any (λ gid. r.gid == gid) one.gids) one.all_users
+        (not-front (λ gid. r.gid == gid) one.gids other.gids parts.1)
+        (or_parts one.all_users other.all_users parts.2).0);
+    shadow = λ r none. let parts = shadow-parts both r none in
+        or_from (is_listed r.name one.users) one.all_users
+        (not-front (bytes_eq r.name) one.users other.users parts.0)
+        (or_parts one.all_users other.all_users parts.1).0;
+    group = λ r none. let parts = group-parts both r none in
+        or_from (is_listed r.name one.groups) (lists_any r.members one.users || one.all_groups)
         (not-front (bytes_eq r.name) one.groups other.groups parts.0)
-        (lists-front r.members one.users other.users parts.1);
-    gshadow = λ r none. let parts = gshadow-parts r none in
-        or_from (is_listed r.name one.groups)
-        (lists_any r.members one.users || lists_any r.administrators one.users)
-        (not-front (bytes_eq r.name) one.groups other.groups parts.0)
-        (or_from (lists_any r.members one.users) (lists_any r.administrators one.users)
+        (or_from (lists_any r.members one.users) one.all_groups
         (lists-front r.members one.users other.users parts.1)
-        (lists-front r.administrators one.users other.users parts.2));
+        (or_parts one.all_groups other.all_groups parts.2).0);
+    gshadow = λ r none. let parts = gshadow-parts both r none in
+        or_from (is_listed r.name one.groups)
+        (lists_any r.members one.users
+        || (lists_any r.administrators one.users || one.all_groups))
+        (not-front (bytes_eq r.name) one.groups other.groups parts.0)
+        (or_from (lists_any r.members one.users)
+        (lists_any r.administrators one.users || one.all_groups)
+        (lists-front r.members one.users other.users parts.1)
+        (or_from (lists_any r.administrators one.users) one.all_groups
+        (lists-front r.administrators one.users other.users parts.2)
+        (or_parts one.all_groups other.all_groups parts.3).0));
     subid = λ r. not-front (bytes_eq r.owner) one.owners other.owners;
   }
 
   -- and what the second does
   pub back-within : NamesWithin other both
   back-within = record {
-    passwd = λ r none. let parts = passwd-parts r none in
-        or_from (is_listed r.name other.users) (list_any (λ gid. r.gid == gid) other.gids)
+    passwd = λ r none. let parts = passwd-parts both r none in
+        or_from (is_listed r.name other.users)
+        (list_any (λ gid. r.gid == gid) other.gids || other.all_users)
         (not-back (bytes_eq r.name) one.users other.users parts.0)
-        (not-back (λ gid. r.gid == gid) one.gids other.gids parts.1);
-    shadow = λ r. not-back (bytes_eq r.name) one.users other.users;
-    group = λ r none. let parts = group-parts r none in
-        or_from (is_listed r.name other.groups) (lists_any r.members other.users)
+        (or_from (list_any (λ gid. r.gid == gid) other.gids) other.all_users
+        (not-back (λ gid. r.gid == gid) one.gids other.gids parts.1)
+        (or_parts one.all_users other.all_users parts.2).1);
+    shadow = λ r none. let parts = shadow-parts both r none in
+        or_from (is_listed r.name other.users) other.all_users
+        (not-back (bytes_eq r.name) one.users other.users parts.0)
+        (or_parts one.all_users other.all_users parts.1).1;
+    group = λ r none. let parts = group-parts both r none in
+        or_from (is_listed r.name other.groups) (lists_any r.members other.users || other.all_groups)
         (not-back (bytes_eq r.name) one.groups other.groups parts.0)
-        (lists-back r.members one.users other.users parts.1);
-    gshadow = λ r none. let parts = gshadow-parts r none in
-        or_from (is_listed r.name other.groups)
-        (lists_any r.members other.users || lists_any r.administrators other.users)
-        (not-back (bytes_eq r.name) one.groups other.groups parts.0)
-        (or_from (lists_any r.members other.users) (lists_any r.administrators other.users)
+        (or_from (lists_any r.members other.users) other.all_groups
         (lists-back r.members one.users other.users parts.1)
-        (lists-back r.administrators one.users other.users parts.2));
+        (or_parts one.all_groups other.all_groups parts.2).1);
+    gshadow = λ r none. let parts = gshadow-parts both r none in
+        or_from (is_listed r.name other.groups)
+        (lists_any r.members other.users
+        || (lists_any r.administrators other.users || other.all_groups))
+        (not-back (bytes_eq r.name) one.groups other.groups parts.0)
+        (or_from (lists_any r.members other.users)
+        (lists_any r.administrators other.users || other.all_groups)
+        (lists-back r.members one.users other.users parts.1)
+        (or_from (lists_any r.administrators other.users) other.all_groups
+        (lists-back r.administrators one.users other.users parts.2)
+        (or_parts one.all_groups other.all_groups parts.3).1));
     subid = λ r. not-back (bytes_eq r.owner) one.owners other.owners;
   }
 

@@ -3,8 +3,8 @@
 -- after one another (`spares-composed`), records of a name that become others or go (`where-spares`, `drop-spares`), and
 -- lists without a name (`unlisted-stays`).
 use Rattle.std.proofs.Common.{◌≡◌, ℕ, Bool, true, false, ◌||◌, not, List, [], ◌∷◌, refl, sym, ◌∙◌, ap}
-use Rattle.std.specs.Prelude.{⊤, Option, Some, None, cond, bytes_eq, decimal, if◌then◌else◌}
-use Rattle.std.specs.List.{AllByRecursion}
+use Rattle.std.specs.Prelude.{⊤, ◌==◌, Option, Some, None, cond, bytes_eq, decimal, if◌then◌else◌}
+use Rattle.std.specs.List.{AllByRecursion, list_any}
 use Rattle.std.proofs.lemmas.Bool.{or_parts, or_from}
 use Rattle.std.proofs.lemmas.Slice.Eq.{bytes_eq-Decides}
 use Rattle.account_model.specs.declared.records.PasswdRecord.{PasswdRecord}
@@ -172,6 +172,55 @@ found-named format name [] r found = absurd (cc found)
 found-named format name (s ∷ rest) r found =
     found-by format name s r rest (is_named format name s) refl found
     (found-named format name rest r)
+
+-- ---- What a record has that isn't named
+
+module _ (named : Named) where
+  -- in passwd another name and another primary GID, and not each user is named
+  pub passwd-parts :
+      (r : PasswdRecord)
+      → names_passwd named r ≡ false
+      → (is_listed r.name named.users ≡ false)
+      × (list_any (λ gid. r.gid == gid) named.gids ≡ false) × (named.all_users ≡ false)
+  passwd-parts r none =
+      let gids : Bool = list_any (λ gid. r.gid == gid) named.gids
+      in let parts = or_parts (is_listed r.name named.users) (gids || named.all_users) none
+      in let rest = or_parts gids named.all_users parts.1
+      in (parts.0, rest.0, rest.1)
+
+  -- in shadow another name
+  pub shadow-parts :
+      (r : ShadowRecord)
+      → names_shadow named r ≡ false
+      → (is_listed r.name named.users ≡ false) × (named.all_users ≡ false)
+  shadow-parts r none = or_parts (is_listed r.name named.users) named.all_users none
+
+  -- in group another name and other members
+  pub group-parts :
+      (r : GroupRecord)
+      → names_group named r ≡ false
+      → (is_listed r.name named.groups ≡ false) × (lists_any r.members named.users ≡ false)
+      × (named.all_groups ≡ false)
+  group-parts r none =
+      let members : Bool = lists_any r.members named.users
+      in let parts = or_parts (is_listed r.name named.groups) (members || named.all_groups) none
+      in let rest = or_parts members named.all_groups parts.1
+      in (parts.0, rest.0, rest.1)
+
+  -- in gshadow other administrators too
+  pub gshadow-parts :
+      (r : GshadowRecord)
+      → names_gshadow named r ≡ false
+      → (is_listed r.name named.groups ≡ false) × (lists_any r.members named.users ≡ false)
+      × (lists_any r.administrators named.users ≡ false) × (named.all_groups ≡ false)
+  gshadow-parts r none =
+      let members : Bool = lists_any r.members named.users
+      in let administrators : Bool = lists_any r.administrators named.users
+      in let parts = or_parts (is_listed r.name named.groups)
+      (members || (administrators || named.all_groups)) none
+      in let lists = or_parts members (administrators || named.all_groups) parts.1
+      in let rest = or_parts administrators named.all_groups lists.1
+      in (parts.0, lists.0, rest.0, rest.1)
 
 -- ---- All tables
 

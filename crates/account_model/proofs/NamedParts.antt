@@ -5,17 +5,18 @@ use Rattle.std.specs.List.{list_any}
 use Rattle.std.proofs.lemmas.Bool.{or_parts}
 use Rattle.acct_text.specs.declared.files.Files.{Files}
 use Rattle.account_model.specs.declared.records.PasswdRecord.{PasswdRecord}
+use Rattle.account_model.specs.declared.records.ShadowRecord.{ShadowRecord}
 use Rattle.account_model.specs.declared.records.GroupRecord.{GroupRecord}
 use Rattle.account_model.specs.declared.records.GshadowRecord.{GshadowRecord}
 use Rattle.account_model.specs.Text.{is_listed}
 use Rattle.account_model.specs.Format.{is_named}
-use Rattle.account_model.specs.Records.{passwd_format, group_format, gshadow_format}
+use Rattle.account_model.specs.Records.{passwd_format, shadow_format, group_format, gshadow_format}
 use Rattle.account_model.specs.Hashes.{elsewhere, make_gshadow, make_shadow}
 use Rattle.account_model.specs.NewAccount.{add_group}
 use Rattle.account_model.specs.Groupdel.{remove_group}
 use Rattle.account_model.specs.Edits.{each_where}
-use Rattle.account_model.specs.NamedLines.{Named, lists_any, names_group, names_gshadow, names_passwd}
-use Rattle.account_model.proofs.NamedLaws.{Spares, SparesUnnamed, drop-spares, groups-spare, not-this, users-spare, where-spares}
+use Rattle.account_model.specs.NamedLines.{Named, lists_any, names_group, names_gshadow, names_passwd, names_shadow}
+use Rattle.account_model.proofs.NamedLaws.{Spares, SparesUnnamed, drop-spares, group-parts, groups-spare, gshadow-parts, not-this, passwd-parts, shadow-parts, users-spare, where-spares}
 
 -- ---- Users
 
@@ -25,8 +26,12 @@ module _ (named : Named) (user : List ℕ)
   -- a line of passwd that isn't named is another user's
   pub other-user : (r : PasswdRecord) → names_passwd named r ≡ false
       → is_named passwd_format user r ≡ false
-  other-user r none = has r.name (or_parts (is_listed r.name named.users)
-      (list_any (λ gid. r.gid == gid) named.gids) none).0
+  other-user r none = has r.name (passwd-parts named r none).0
+
+  -- and so is one of shadow
+  pub other-shadow : (r : ShadowRecord) → names_shadow named r ≡ false
+      → is_named shadow_format user r ≡ false
+  other-shadow r none = has r.name (shadow-parts named r none).0
 
   module _ {sorts : Bool} where
     -- the line of shadow that is made
@@ -48,14 +53,12 @@ module _ (named : Named) (group : List ℕ)
     -- a line of group that isn't named is another group's
     other-group : (r : GroupRecord) → names_group named r ≡ false
         → is_named group_format group r ≡ false
-    other-group r none = has r.name (or_parts (is_listed r.name named.groups)
-        (lists_any r.members named.users) none).0
+    other-group r none = has r.name (group-parts named r none).0
 
     -- and so is one of gshadow
     other-gshadow : (r : GshadowRecord) → names_gshadow named r ≡ false
         → is_named gshadow_format group r ≡ false
-    other-gshadow r none = has r.name (or_parts (is_listed r.name named.groups)
-        (lists_any r.members named.users || lists_any r.administrators named.users) none).0
+    other-gshadow r none = has r.name (gshadow-parts named r none).0
 
     -- the group's lines become others
     pub each-spares :

@@ -46,7 +46,7 @@ use Rattle.account_model.proofs.LawfulScripts.{IsLawful, lawful, lawful-composed
 use Rattle.account_model.proofs.LawfulTools.{LawfulTool, quiet-act}
 use Rattle.account_model.proofs.MemberLaws.{with-listed}
 use Rattle.account_model.proofs.NamedLaws.{Spares, not-others, not-this, users-spare}
-use Rattle.account_model.proofs.NamedParts.{first-has, new-group-spares}
+use Rattle.account_model.proofs.NamedParts.{first-has, new-group-spares, other-shadow}
 use Rattle.account_model.specs.declared.tool.Tool.TheVariants.{Useradd}
 use Rattle.account_model.specs.declared.new_user.Allotment.{Allotment}
 use Rattle.account_model.specs.declared.new_user.Plan.{Plan}
@@ -367,7 +367,8 @@ module _ (request : Request) (files : Files) (settings : List Setting) (day : â„
       subuid = tt;
       subgid = tt;
     };
-    spares = users-spare _ _ (tt, tt) ((Î» r. first-has (operand request) [] r.name), tt);
+    spares = users-spare _ _ (tt, tt)
+        (other-shadow useradd_names (operand request) (first-has (operand request) []), tt);
     keep = may-give;
   }
 

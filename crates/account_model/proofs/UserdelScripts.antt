@@ -24,8 +24,8 @@ use Rattle.account_model.proofs.HeldLaws.{passwd-holds, shadow-holds, group-hold
 use Rattle.account_model.proofs.ComposedScripts.{all-hold, some-holds}
 use Rattle.account_model.proofs.LawfulScripts.{IsLawful, lawful, lawful-composed}
 use Rattle.account_model.proofs.LawfulTools.{LawfulTool, quiet-act}
-use Rattle.account_model.proofs.NamedLaws.{Spares, SparesUnnamed, drop-spares, not-owned, unlisted-stays}
-use Rattle.account_model.proofs.NamedParts.{first-has, other-user, removed-spares}
+use Rattle.account_model.proofs.NamedLaws.{Spares, SparesUnnamed, drop-spares, not-owned, unlisted-stays, group-parts, gshadow-parts}
+use Rattle.account_model.proofs.NamedParts.{first-has, other-user, removed-spares, other-shadow}
 use Rattle.account_model.proofs.MemberLaws.{without-listed}
 use Rattle.account_model.proofs.GroupToolScripts.{remove-group-keeps, remove-group-written}
 use Rattle.account_model.proofs.KeptIds.{KeepIds, drop-keeps, numbers_of}
@@ -103,30 +103,25 @@ module _ (request : Request) (files : Files) where
     );
     shadow = (
       drop-spares shadow_format false _ (is_named shadow_format (operand request))
-          (λ r. first-has (operand request) [] r.name),
+          (other-shadow userdel_names (operand request) (first-has (operand request) [])),
       tt,
     );
     group = (
       (λ r none. ap (λ (members : List (List ℕ)). record r { members = members } ∷ [])
           (unlisted-stays (operand request) r.members
-          (or_parts (is_listed r.name userdel_names.groups)
-          (lists_any r.members userdel_names.users) none).1)),
+          (group-parts userdel_names r none).1)),
       tt,
     );
     gshadow = (
       (λ r none.
-          let parts = or_parts (is_listed r.name userdel_names.groups)
-          (lists_any r.members userdel_names.users
-          || lists_any r.administrators userdel_names.users) none
-          in let lists = or_parts (lists_any r.members userdel_names.users)
-          (lists_any r.administrators userdel_names.users) parts.1
+          let parts = gshadow-parts userdel_names r none
           in ap (λ (members : List (List ℕ)). record r {
             administrators = without_name (operand request) r.administrators;
             members = members;
-          } ∷ []) (unlisted-stays (operand request) r.members lists.0)
+          } ∷ []) (unlisted-stays (operand request) r.members parts.1)
           ∙ ap (λ (administrators : List (List ℕ)).
           record r { administrators = administrators } ∷ [])
-          (unlisted-stays (operand request) r.administrators lists.1)),
+          (unlisted-stays (operand request) r.administrators parts.2)),
       tt,
     );
     subuid = (ranges-dropped, tt);

@@ -19,8 +19,8 @@ use Rattle.account_model.specs.SubidOwner.{is_owned, left_without}
 use Rattle.account_model.specs.NamedLines.{Named, lists_any, named_by, names_group, names_gshadow, names_subid, owner_fields}
 use Rattle.account_model.proofs.ListLaws.{all-append}
 use Rattle.account_model.proofs.RenamingLaws.{unlisted_stays}
-use Rattle.account_model.proofs.NamedParts.{first-has, other-user}
-use Rattle.account_model.proofs.NamedLaws.{Spares, SparesUnnamed, not-others, not-owned, not-this, unlisted-in, unlisted-stays, where-spares}
+use Rattle.account_model.proofs.NamedParts.{first-has, other-user, other-shadow}
+use Rattle.account_model.proofs.NamedLaws.{Spares, SparesUnnamed, not-others, not-owned, not-this, unlisted-in, unlisted-stays, where-spares, group-parts, gshadow-parts}
 
 -- members that stay, whether groups are listed or the user is added
 joined-by :
@@ -59,8 +59,7 @@ module _ (request : Request) (files : Files) where
       → names_group usermod_names r ≡ false
       → changed_group request files r ∷ [] ≡ r ∷ []
   group-stays r none =
-      let parts = or_parts (is_listed r.name usermod_names.groups)
-      (lists_any r.members usermod_names.users) none
+      let parts = group-parts usermod_names r none
       in ap (λ (members : List (List ℕ)). record r { members = members } ∷ [])
       (members-stay r.name r.members parts.0 parts.1)
 
@@ -70,18 +69,14 @@ module _ (request : Request) (files : Files) where
       → names_gshadow usermod_names r ≡ false
       → changed_gshadow request files r ∷ [] ≡ r ∷ []
   gshadow-stays r none =
-      let parts = or_parts (is_listed r.name usermod_names.groups)
-      (lists_any r.members usermod_names.users || lists_any r.administrators usermod_names.users)
-      none
-      in let lists = or_parts (lists_any r.members usermod_names.users)
-      (lists_any r.administrators usermod_names.users) parts.1
+      let parts = gshadow-parts usermod_names r none
       in ap (λ (members : List (List ℕ)). record r {
         administrators = with_new_name request r.administrators;
         members = members;
-      } ∷ []) (members-stay r.name r.members parts.0 lists.0)
+      } ∷ []) (members-stay r.name r.members parts.0 parts.1)
       ∙ ap (λ (administrators : List (List ℕ)). record r { administrators = administrators } ∷ [])
       (unlisted_stays (operand request) (new_name request) r.administrators
-      (unlisted-in (operand request) r.administrators lists.1))
+      (unlisted-in (operand request) r.administrators parts.2))
 
   -- ranges that go
   cuts-spare :
@@ -137,7 +132,8 @@ module _ (request : Request) (files : Files) where
     );
     shadow = (
       where-spares shadow_format false _ (is_named shadow_format (operand request))
-          (changed_shadow request day) (λ r. first-has (operand request) [] r.name),
+          (changed_shadow request day)
+          (other-shadow usermod_names (operand request) (first-has (operand request) [])),
       tt,
     );
     group = (group-stays, tt);

@@ -33,16 +33,26 @@ use Rattle.account_model.specs.DeedLines.{edits_of_deed, edits_on, table_lines, 
 
 -- ---- What a command names
 
--- users, groups, the owner fields of ranges, and the primary GIDs of users that follow a group
+-- users, groups, the owner fields of ranges, the primary GIDs of users that follow a group, and whether
+-- each line of users or of groups is named (pwconv(8))
 pub record Named : Type 0 where
   pub users : List (List ℕ)
   pub groups : List (List ℕ)
   pub owners : List (List ℕ)
   pub gids : List ℕ
+  pub all_users : Bool
+  pub all_groups : Bool
 
 -- nothing
 abbrev pub names_nothing : Named
-names_nothing = record { users = []; groups = []; owners = []; gids = [] }
+names_nothing = record {
+  users = [];
+  groups = [];
+  owners = [];
+  gids = [];
+  all_users = false;
+  all_groups = false;
+}
 
 -- what two commands name
 abbrev pub named_by_both : Named → Named → Named
@@ -51,6 +61,8 @@ named_by_both one other = record {
   groups = one.groups ++ other.groups;
   owners = one.owners ++ other.owners;
   gids = one.gids ++ other.gids;
+  all_users = one.all_users || other.all_users;
+  all_groups = one.all_groups || other.all_groups;
 }
 
 -- the owner fields of a user's ranges: the name, and the UID in digits, where it is known (subuid(5))
@@ -125,21 +137,23 @@ lists_any names others = list_any (λ name. is_listed name others) names
 
 -- a line of passwd: by its user, or by the primary GID
 abbrev pub names_passwd : Named → PasswdRecord → Bool
-names_passwd named r =
-    is_listed r.name named.users || list_any (λ gid. r.gid == gid) named.gids
+names_passwd named r = is_listed r.name named.users
+    || (list_any (λ gid. r.gid == gid) named.gids || named.all_users)
 
 -- a line of shadow, by its user
 abbrev pub names_shadow : Named → ShadowRecord → Bool
-names_shadow named r = is_listed r.name named.users
+names_shadow named r = is_listed r.name named.users || named.all_users
 
 -- a line of group: by its group, or by a member
 abbrev pub names_group : Named → GroupRecord → Bool
-names_group named r = is_listed r.name named.groups || lists_any r.members named.users
+names_group named r = is_listed r.name named.groups
+    || (lists_any r.members named.users || named.all_groups)
 
 -- a line of gshadow: by its group, by a member, or by an administrator
 abbrev pub names_gshadow : Named → GshadowRecord → Bool
 names_gshadow named r = is_listed r.name named.groups
-    || (lists_any r.members named.users || lists_any r.administrators named.users)
+    || (lists_any r.members named.users
+    || (lists_any r.administrators named.users || named.all_groups))
 
 -- a line of subuid or subgid, by its owner
 abbrev pub names_subid : Named → SubidRecord → Bool
