@@ -1,13 +1,16 @@
--- pwconv, pwunconv, grpconv and grpunconv print only records that read back: `pwconv-written` and its like. Way: what a
--- record takes over is a field of one that a line holds, and so is what a new record is made of.
-use Rattle.std.proofs.Common.{◌≡◌, ℕ, ◌≤◌, Bool, true, false, List, [], ◌∷◌, refl}
+-- pwconv, pwunconv, grpconv and grpunconv are lawful: `pwconv-lawful` and its like. Way: what a record takes over is a
+-- field of one that a line holds, and so is what a new record is made of (`pwconv-written`); and each record is named.
+use Rattle.std.proofs.Common.{◌≡◌, ℕ, ◌≤◌, Bool, true, false, List, [], ◌∷◌, refl, true≢false}
 use Rattle.std.specs.Prelude.{Option, Some, None, bytes_eq, map, if◌then◌else◌}
 use Rattle.std.specs.List.{AllByRecursion}
 use Rattle.acct_text.specs.declared.files.Files.{Files}
 use Rattle.account_model.specs.declared.records.PasswdRecord.{PasswdRecord}
+use Rattle.account_model.specs.declared.records.ShadowRecord.{ShadowRecord}
 use Rattle.account_model.specs.declared.records.GroupRecord.{GroupRecord}
-use Rattle.account_model.specs.Format.{is_named, find_named}
-use Rattle.account_model.specs.Edits.{AddMissing}
+use Rattle.account_model.specs.declared.records.GshadowRecord.{GshadowRecord}
+use Rattle.account_model.specs.declared.tool.Tool.TheVariants.{Pwconv, Pwunconv, Grpconv, Grpunconv}
+use Rattle.account_model.specs.Format.{Format, is_named, find_named}
+use Rattle.account_model.specs.Edits.{AddMissing, Become}
 use Rattle.account_model.specs.Records.{passwd_format, shadow_format, group_format, gshadow_format, greatest_days}
 use Rattle.account_model.specs.RecordEdits.{IsWrittenEdit}
 use Rattle.account_model.specs.Settings.{Setting}
@@ -16,6 +19,11 @@ use Rattle.account_model.specs.WrittenScript.{IsWrittenScript}
 use Rattle.account_model.specs.Tables.{passwd_records, shadow_records, group_records, gshadow_records}
 use Rattle.account_model.specs.Hashes.{elsewhere, gshadow_of}
 use Rattle.account_model.specs.Conversion.{Accounts, users, groups, taken_over, gathered, hidden, with_shown, shown, emptied, take_password, shadow_of, take_group_password, pwconv_script, pwunconv_script, grpconv_script, grpunconv_script}
+use Rattle.account_model.specs.NamedLines.{Named, names_group, names_gshadow, names_nothing, names_passwd, names_shadow}
+use Rattle.account_model.proofs.KeptIds.{groups-keep, users-keep}
+use Rattle.account_model.proofs.LawfulScripts.{lawful}
+use Rattle.account_model.proofs.LawfulTools.{LawfulTool, quiet-act}
+use Rattle.account_model.proofs.NamedLaws.{Spares, group-parts, groups-spare, gshadow-parts, passwd-parts, shadow-parts, users-spare}
 use Rattle.account_model.proofs.HeldLaws.{passwd-holds, shadow-holds, group-holds, gshadow-holds, each-written, drop_where-written}
 use Rattle.account_model.proofs.RefusalFacts.{table-held, find-held}
 use Rattle.account_model.proofs.SettingBounds.{minimum-days, maximum-days, warning-days}
@@ -216,3 +224,104 @@ grpunconv-written files = groups-written _ _
     (table-held gshadow_format IsGshadow gshadow-holds files.gshadow))
     (emptied-written groups IsGroup IsGshadow group-holds gshadow-holds
     (λ group is. is.password) (λ r is. is.password) group-with)
+
+-- ---- The tools
+
+-- where each record is named, an edit that sorts nothing spares what isn't
+module _ {R : Type 0} (format : Format R) (names : R → Bool)
+    (all : (r : R) → names r ≡ false → ⊥) where
+  become-spares : (f : R → List R) → Spares format false names (Become f)
+  become-spares f r none = absurd (all r none)
+
+  -- and so do new records
+  made-spares :
+      {M : Type 0} (made : M → R) (mains : List M)
+      → AllByRecursion (Spares format false names) (map (λ m. AddMissing (made m)) mains)
+  made-spares made [] = tt
+  made-spares made (m ∷ mains) = (tt, made-spares made mains)
+
+-- a record with its hash as field has the ID that it had
+shown-keeps :
+    {M H I : Type 0} (accounts : Accounts M H) (id : M → I) (m : M) (found : Option H)
+    → ((field : List ℕ) → id (accounts.with_field field m) ≡ id m)
+    → id (elim found [ None ↦ m | Some h ↦ accounts.with_field (accounts.hash h) m ]) ≡ id m
+shown-keeps accounts id m None same = refl
+shown-keeps accounts id m (Some h) same = same (accounts.hash h)
+
+-- each user is named, or each group
+abbrev every_user : Named
+every_user = record names_nothing { all_users = true }
+
+abbrev every_group : Named
+every_group = record names_nothing { all_groups = true }
+
+all-passwd : (r : PasswdRecord) → names_passwd every_user r ≡ false → ⊥
+all-passwd r none = true≢false (passwd-parts every_user r none).2
+
+all-shadow : (r : ShadowRecord) → names_shadow every_user r ≡ false → ⊥
+all-shadow r none = true≢false (shadow-parts every_user r none).1
+
+all-group : (r : GroupRecord) → names_group every_group r ≡ false → ⊥
+all-group r none = true≢false (group-parts every_group r none).2
+
+all-gshadow : (r : GshadowRecord) → names_gshadow every_group r ≡ false → ⊥
+all-gshadow r none = true≢false (gshadow-parts every_group r none).3
+
+-- pwconv is lawful
+pub pwconv-lawful : LawfulTool Pwconv
+pwconv-lawful request input day files settings = quiet-act refl refl refl (λ none. record {
+  written = record {
+    passwd = hidden-written users IsPasswd IsShadow passwd-holds shadow-holds
+        (λ user is. is.password) (λ r is. is.hash) user-with;
+    shadow = λ small. (pwconv-written files settings day small).shadow;
+    group = tt;
+    gshadow = tt;
+    subuid = tt;
+    subgid = tt;
+  };
+  spares = users-spare _ _ (become-spares passwd_format _ all-passwd _, tt) (
+    become-spares shadow_format _ all-shadow _,
+    (
+      become-spares shadow_format _ all-shadow _,
+      made-spares shadow_format _ all-shadow (shadow_of settings day) (passwd_records files),
+    ),
+  );
+  keep = λ none. users-keep _ _ ((λ user. refl), tt);
+})
+
+-- and so is pwunconv
+pub pwunconv-lawful : LawfulTool Pwunconv
+pwunconv-lawful request input day files settings =
+    quiet-act refl refl refl (λ none. lawful (pwunconv-written files)
+    (users-spare _ _ (become-spares passwd_format _ all-passwd _, tt)
+    (become-spares shadow_format _ all-shadow _, tt))
+    (λ none. users-keep _ _ (
+      (λ user. shown-keeps users (λ one. one.uid) user
+          (find_named shadow_format user.name (shadow_records files)) (λ field. refl)),
+      tt,
+    )))
+
+-- grpconv
+pub grpconv-lawful : LawfulTool Grpconv
+grpconv-lawful request input day files settings =
+    quiet-act refl refl refl (λ none. lawful (grpconv-written files)
+    (groups-spare _ _ (become-spares group_format _ all-group _, tt) (
+      become-spares gshadow_format _ all-gshadow _,
+      (
+        become-spares gshadow_format _ all-gshadow _,
+        made-spares gshadow_format _ all-gshadow gshadow_of (group_records files),
+      ),
+    ))
+    (λ none. groups-keep _ _ ((λ group. refl), tt)))
+
+-- grpunconv
+pub grpunconv-lawful : LawfulTool Grpunconv
+grpunconv-lawful request input day files settings =
+    quiet-act refl refl refl (λ none. lawful (grpunconv-written files)
+    (groups-spare _ _ (become-spares group_format _ all-group _, tt)
+    (become-spares gshadow_format _ all-gshadow _, tt))
+    (λ none. groups-keep _ _ (
+      (λ group. shown-keeps groups (λ one. one.gid) group
+          (find_named gshadow_format group.name (gshadow_records files)) (λ field. refl)),
+      tt,
+    )))

@@ -3,7 +3,7 @@ use Rattle.std.proofs.Common.{◌≡◌, ℕ, ◌≤◌, List}
 use Rattle.std.specs.Prelude.{None}
 use Rattle.acct_text.specs.declared.files.Files.{Files}
 use Rattle.account_model.specs.declared.tool.Tool.{Tool}
-use Rattle.account_model.specs.declared.tool.Tool.TheVariants.{Useradd, Usermod, Userdel, Groupadd, Groupmod, Groupdel, Gpasswd, Chage, Chpasswd, Pwck, Grpck, Getsubids, Batch}
+use Rattle.account_model.specs.declared.tool.Tool.TheVariants.{Useradd, Usermod, Userdel, Groupadd, Groupmod, Groupdel, Gpasswd, Chage, Chpasswd, Passwd, Pwconv, Pwunconv, Grpconv, Grpunconv, Pwck, Grpck, Getsubids, Batch}
 use Rattle.account_model.specs.Text.{first_some}
 use Rattle.account_model.specs.Records.{greatest_days}
 use Rattle.account_model.specs.Request.{Request}
@@ -17,6 +17,8 @@ use Rattle.account_model.proofs.UseraddScripts.{useradd-lawful}
 use Rattle.account_model.proofs.UserdelScripts.{userdel-lawful}
 use Rattle.account_model.proofs.UsermodScripts.{usermod-lawful}
 use Rattle.account_model.proofs.AgingToolScripts.{chage-lawful, chpasswd-lawful}
+use Rattle.account_model.proofs.PasswdScripts.{passwd-lawful}
+use Rattle.account_model.proofs.ConversionScripts.{pwconv-lawful, pwunconv-lawful, grpconv-lawful, grpunconv-lawful}
 use Rattle.account_model.proofs.ReportScripts.{pwck-lawful, grpck-lawful, getsubids-lawful, batch-lawful}
 
 -- what each tool means is lawful
@@ -30,6 +32,11 @@ meaning Groupdel = groupdel-lawful
 meaning Gpasswd = gpasswd-lawful
 meaning Chage = chage-lawful
 meaning Chpasswd = chpasswd-lawful
+meaning Passwd = passwd-lawful
+meaning Pwconv = pwconv-lawful
+meaning Pwunconv = pwunconv-lawful
+meaning Grpconv = grpconv-lawful
+meaning Grpunconv = grpunconv-lawful
 meaning Pwck = pwck-lawful
 meaning Grpck = grpck-lawful
 meaning Getsubids = getsubids-lawful

@@ -1,7 +1,7 @@
 -- What each tool does: one function over all of them.
 use Rattle.std.specs.Prelude.{ℕ, List, []}
 use Rattle.account_model.specs.declared.tool.Tool.{Tool}
-use Rattle.account_model.specs.declared.tool.Tool.TheVariants.{Useradd, Usermod, Userdel, Groupadd, Groupmod, Groupdel, Gpasswd, Chage, Chpasswd, Pwck, Grpck, Getsubids, Batch}
+use Rattle.account_model.specs.declared.tool.Tool.TheVariants.{Useradd, Usermod, Userdel, Groupadd, Groupmod, Groupdel, Gpasswd, Chage, Chpasswd, Passwd, Pwconv, Pwunconv, Grpconv, Grpunconv, Pwck, Grpck, Getsubids, Batch}
 use Rattle.acct_text.specs.declared.files.Files.{Files}
 use Rattle.account_model.specs.Settings.{Setting}
 use Rattle.account_model.specs.Request.{Request}
@@ -16,6 +16,8 @@ use Rattle.account_model.specs.Groupdel.{groupdel}
 use Rattle.account_model.specs.Gpasswd.{gpasswd}
 use Rattle.account_model.specs.Chage.{chage}
 use Rattle.account_model.specs.Chpasswd.{chpasswd}
+use Rattle.account_model.specs.Passwd.{passwd}
+use Rattle.account_model.specs.Conversion.{pwconv, pwunconv, grpconv, grpunconv}
 use Rattle.account_model.specs.Pwck.{pwck}
 use Rattle.account_model.specs.Grpck.{grpck}
 use Rattle.account_model.specs.Getsubids.{getsubids}
@@ -32,6 +34,11 @@ action_by Groupdel request input day files settings = groupdel request files
 action_by Gpasswd request input day files settings = gpasswd request files
 action_by Chage request input day files settings = chage request files
 action_by Chpasswd request input day files settings = chpasswd input files day
+action_by Passwd request input day files settings = passwd request files
+action_by Pwconv request input day files settings = pwconv files settings day
+action_by Pwunconv request input day files settings = pwunconv files
+action_by Grpconv request input day files settings = grpconv files
+action_by Grpunconv request input day files settings = grpunconv files
 action_by Pwck request input day files settings = pwck request files day
 action_by Grpck request input day files settings = grpck request files
 action_by Getsubids request input day files settings = getsubids request files

@@ -11,7 +11,7 @@ use Rattle.account_model.specs.declared.records.GroupRecord.{GroupRecord}
 use Rattle.account_model.specs.declared.records.GshadowRecord.{GshadowRecord}
 use Rattle.account_model.specs.declared.records.SubidRecord.{SubidRecord}
 use Rattle.account_model.specs.declared.tool.Tool.{Tool}
-use Rattle.account_model.specs.declared.tool.Tool.TheVariants.{Useradd, Usermod, Userdel, Groupadd, Groupmod, Groupdel, Gpasswd, Chage, Chpasswd}
+use Rattle.account_model.specs.declared.tool.Tool.TheVariants.{Useradd, Usermod, Userdel, Groupadd, Groupmod, Groupdel, Gpasswd, Chage, Chpasswd, Passwd, Pwconv, Pwunconv, Grpconv, Grpunconv}
 use Rattle.account_model.specs.Text.{is_listed}
 use Rattle.account_model.specs.Format.{Format}
 use Rattle.account_model.specs.Edits.{Edit, touches}
@@ -113,6 +113,11 @@ named_by Gpasswd request input files =
 named_by Chage request input files = record names_nothing { users = operand request ∷ [] }
 named_by Chpasswd request input files =
     record names_nothing { users = map (λ line. line_name line.text) (lines_of input) }
+named_by Passwd request input files = record names_nothing { users = operand request ∷ [] }
+named_by Pwconv request input files = record names_nothing { all_users = true }
+named_by Pwunconv request input files = record names_nothing { all_users = true }
+named_by Grpconv request input files = record names_nothing { all_groups = true }
+named_by Grpunconv request input files = record names_nothing { all_groups = true }
 named_by tool request input files = names_nothing
 
 -- what the commands of a batch name, each on the files that those before it leave

@@ -5,10 +5,10 @@ use Rattle.std.specs.Str.{byte}
 use Rattle.acct_text.specs.declared.Tab.{Tab}
 use Rattle.acct_text.specs.declared.Tab.TheVariants.{Passwd, Shadow, Group, Gshadow, Subuid, Subgid}
 use Rattle.account_model.specs.declared.tool.Tool.{Tool}
-use Rattle.account_model.specs.declared.tool.Tool.TheVariants.{Useradd, Usermod, Userdel, Groupadd, Groupmod, Groupdel, Gpasswd, Chage, Chpasswd, Pwck, Grpck, Getsubids, Batch}
+use Rattle.account_model.specs.declared.tool.Tool.TheVariants.{Useradd, Usermod, Userdel, Groupadd, Groupmod, Groupdel, Gpasswd, Chage, Chpasswd, Passwd as ChangePasswd, Pwconv, Pwunconv, Grpconv, Grpunconv, Pwck, Grpck, Getsubids, Batch}
 use Rattle.account_model.specs.Options.{Word, OptionForm, Rule, alone, flag, not_both, one_of, only_with, rule, short_flag, some_of, some_option, with_value}
 use Rattle.account_model.specs.declared.tool_statuses.ToolStatuses.{ToolStatuses}
-use Rattle.account_model.specs.ToolStatuses.{chage_statuses, check_statuses, common_statuses, getsubids_statuses, gpasswd_statuses, group_statuses, user_statuses}
+use Rattle.account_model.specs.ToolStatuses.{chage_statuses, check_statuses, common_statuses, conversion_statuses, getsubids_statuses, gpasswd_statuses, group_statuses, passwd_statuses, user_statuses}
 
 -- when a command of the tool only shows what stands, and the tables that it then reads
 pub data Reporting : Type 0 where
@@ -73,6 +73,15 @@ check_row = record common_row {
       ∷ [];
   is_for_lines = false;
   statuses = check_statuses;
+}
+
+-- a conversion, which has no option and no operand (pwconv(8))
+abbrev conversion_row : ToolRow
+conversion_row = record common_row {
+  least = 0;
+  most = 0;
+  is_for_lines = false;
+  statuses = conversion_statuses;
 }
 
 -- the row of each tool (its manual page)
@@ -217,6 +226,30 @@ row_of Chpasswd = record common_row {
   wrapper_letters = codes "c";
   wrapper_names = codes "crypt-method" ∷ [];
 }
+row_of ChangePasswd = record common_row {
+  name = codes "passwd";
+  options = flag "d" "delete"
+      ∷ flag "e" "expire"
+      ∷ with_value "i" "inactive"
+      ∷ flag "l" "lock"
+      ∷ with_value "n" "mindays"
+      ∷ flag "S" "status"
+      ∷ flag "u" "unlock"
+      ∷ with_value "w" "warndays"
+      ∷ with_value "x" "maxdays"
+      ∷ [];
+  rules = wants_option
+      ∷ rule "-S goes with no other option" (alone (codes "S"))
+      ∷ rule "-d, -l and -u exclude each other" (one_of (codes "dlu"))
+      ∷ [];
+  is_for_lines = false;
+  reporting = where_given (codes "S") (Passwd ∷ Shadow ∷ []);
+  statuses = passwd_statuses;
+}
+row_of Pwconv = record conversion_row { name = codes "pwconv" }
+row_of Pwunconv = record conversion_row { name = codes "pwunconv" }
+row_of Grpconv = record conversion_row { name = codes "grpconv" }
+row_of Grpunconv = record conversion_row { name = codes "grpunconv" }
 row_of Pwck = record check_row {
   name = codes "pwck";
   options = flag "q" "quiet" ∷ flag "r" "read-only" ∷ flag "s" "sort" ∷ [];

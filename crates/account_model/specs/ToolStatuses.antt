@@ -1,6 +1,7 @@
 -- The statuses that go by the tool, by the "EXIT VALUES" of useradd(8), usermod(8), userdel(8),
--- groupadd(8), groupmod(8), groupdel(8), gpasswd(1), chage(1), pwck(8) and grpck(8). Where the pages
--- of a tool differ between versions or name no number, the number is this profile's own.
+-- groupadd(8), groupmod(8), groupdel(8), gpasswd(1), chage(1), passwd(1), pwconv(8), pwck(8) and
+-- grpck(8). Where the pages of a tool differ between versions or name no number, the number is this
+-- profile's own.
 use Rattle.std.specs.Prelude.{ℕ}
 use Rattle.account_model.specs.declared.tool_statuses.ToolStatuses.{ToolStatuses}
 
@@ -33,6 +34,14 @@ unchanged_files = 5
 -- the UID or the GID is in use, or none is free
 abbrev pub used_id : ℕ
 used_id = 4
+
+-- passwd doesn't get the lock
+abbrev pub busy_file : ℕ
+busy_file = 5
+
+-- passwd can't use a value
+abbrev pub invalid_argument : ℕ
+invalid_argument = 6
 
 -- the user or the group doesn't exist
 abbrev pub unknown_account : ℕ
@@ -96,6 +105,19 @@ chage_statuses = record common_statuses {
   no_user = general_failure;
   no_shadow = absent_shadow;
 }
+
+-- passwd(1)
+abbrev pub passwd_statuses : ToolStatuses
+passwd_statuses = record common_statuses {
+  lock = busy_file;
+  bad_value = invalid_argument;
+  no_user = general_failure;
+  no_shadow = general_failure;
+}
+
+-- pwconv(8), pwunconv(8), grpconv(8), grpunconv(8)
+abbrev pub conversion_statuses : ToolStatuses
+conversion_statuses = record common_statuses { no_shadow = general_failure }
 
 -- getsubids(1)
 abbrev pub getsubids_statuses : ToolStatuses

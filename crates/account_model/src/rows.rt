@@ -2,8 +2,8 @@
 use crate::OptionForm::{Flag, ShortFlag, Value};
 use crate::Test::{Alone, NotBoth, OneOf, OnlyWith, SomeOf, SomeOption};
 use crate::tool_statuses::{
-    CHAGE_STATUSES, CHECK_STATUSES, COMMON_STATUSES, GETSUBIDS_STATUSES, GPASSWD_STATUSES,
-    GROUP_STATUSES, USER_STATUSES,
+    CHAGE_STATUSES, CHECK_STATUSES, COMMON_STATUSES, CONVERSION_STATUSES, GETSUBIDS_STATUSES,
+    GPASSWD_STATUSES, GROUP_STATUSES, PASSWD_STATUSES, USER_STATUSES,
 };
 use crate::{Reporting, Rule, ToolRow};
 use acct_text::Tab;
@@ -254,6 +254,65 @@ pub(crate) static CHPASSWD: ToolRow = ToolRow {
     wrapper_letters: b"c",
     wrapper_names: &["crypt-method"],
     ..COMMON
+};
+
+pub(crate) static PASSWD: ToolRow = ToolRow {
+    name: "passwd",
+    options: &[
+        Flag(b'd', "delete"),
+        Flag(b'e', "expire"),
+        Value(b'i', "inactive"),
+        Flag(b'l', "lock"),
+        Value(b'n', "mindays"),
+        Flag(b'S', "status"),
+        Flag(b'u', "unlock"),
+        Value(b'w', "warndays"),
+        Value(b'x', "maxdays"),
+    ],
+    rules: &[
+        WANTS_OPTION,
+        Rule {
+            text: "-S goes with no other option",
+            test: Alone(b"S"),
+        },
+        Rule {
+            text: "-d, -l and -u exclude each other",
+            test: OneOf(b"dlu"),
+        },
+    ],
+    is_for_lines: false,
+    reporting: Reporting::WhereGiven(b'S', &[Tab::Passwd, Tab::Shadow]),
+    statuses: PASSWD_STATUSES,
+    ..COMMON
+};
+
+// A conversion, which has no option and no operand (pwconv(8)).
+const CONVERSION: ToolRow = ToolRow {
+    least: 0,
+    most: 0,
+    is_for_lines: false,
+    statuses: CONVERSION_STATUSES,
+    ..COMMON
+};
+
+pub(crate) static PWCONV: ToolRow = ToolRow {
+    name: "pwconv",
+    ..CONVERSION
+};
+
+pub(crate) static PWUNCONV: ToolRow = ToolRow {
+    name: "pwunconv",
+    ..CONVERSION
+};
+
+pub(crate) static GRPCONV: ToolRow = ToolRow {
+    name: "grpconv",
+    ..CONVERSION
+};
+
+pub(crate) static GRPUNCONV: ToolRow = ToolRow {
+    name: "grpunconv",
+    ..CONVERSION
 };
 
 pub(crate) static PWCK: ToolRow = ToolRow {

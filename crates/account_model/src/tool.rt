@@ -27,6 +27,16 @@ pub enum Tool {
     Chage,
     /// Sets the hashes of many users (chpasswd(8)).
     Chpasswd,
+    /// Locks, unlocks, empties or ages a user's password, or shows its state (passwd(1)).
+    Passwd,
+    /// Moves the hashes of users to shadow (pwconv(8)).
+    Pwconv,
+    /// Moves the hashes of users back to passwd (pwunconv(8)).
+    Pwunconv,
+    /// Moves the hashes of groups to gshadow (grpconv(8)).
+    Grpconv,
+    /// Moves the hashes of groups back to group (grpunconv(8)).
+    Grpunconv,
     /// Checks or sorts passwd and shadow (pwck(8)).
     Pwck,
     /// Checks or sorts group and gshadow (grpck(8)).
@@ -39,7 +49,7 @@ pub enum Tool {
 
 impl Tool {
     /// The tools in the order of the enum.
-    pub fn all() -> [Tool; 13]
+    pub fn all() -> [Tool; 18]
         ensures { result ≡ tools }
     {
         [
@@ -52,6 +62,11 @@ impl Tool {
             Tool::Gpasswd,
             Tool::Chage,
             Tool::Chpasswd,
+            Tool::Passwd,
+            Tool::Pwconv,
+            Tool::Pwunconv,
+            Tool::Grpconv,
+            Tool::Grpunconv,
             Tool::Pwck,
             Tool::Grpck,
             Tool::Getsubids,
@@ -73,6 +88,11 @@ impl Tool {
             Tool::Gpasswd => &rows::GPASSWD,
             Tool::Chage => &rows::CHAGE,
             Tool::Chpasswd => &rows::CHPASSWD,
+            Tool::Passwd => &rows::PASSWD,
+            Tool::Pwconv => &rows::PWCONV,
+            Tool::Pwunconv => &rows::PWUNCONV,
+            Tool::Grpconv => &rows::GRPCONV,
+            Tool::Grpunconv => &rows::GRPUNCONV,
             Tool::Pwck => &rows::PWCK,
             Tool::Grpck => &rows::GRPCK,
             Tool::Getsubids => &rows::GETSUBIDS,

@@ -21,6 +21,12 @@ const UNCHANGED_FILES: u8 = 5;
 /// The UID or the GID is in use, or none is free.
 pub const USED_ID: u8 = 4;
 
+// passwd doesn't get the lock.
+const BUSY_FILE: u8 = 5;
+
+// passwd can't use a value.
+const INVALID_ARGUMENT: u8 = 6;
+
 // The user or the group doesn't exist.
 const UNKNOWN_ACCOUNT: u8 = 6;
 
@@ -103,6 +109,21 @@ pub(crate) const CHAGE_STATUSES: ToolStatuses = ToolStatuses {
     bad_value: BAD_USAGE,
     no_user: GENERAL_FAILURE,
     no_shadow: ABSENT_SHADOW,
+    ..COMMON_STATUSES
+};
+
+/// passwd(1).
+pub(crate) const PASSWD_STATUSES: ToolStatuses = ToolStatuses {
+    lock: BUSY_FILE,
+    bad_value: INVALID_ARGUMENT,
+    no_user: GENERAL_FAILURE,
+    no_shadow: GENERAL_FAILURE,
+    ..COMMON_STATUSES
+};
+
+/// pwconv(8), pwunconv(8), grpconv(8), grpunconv(8).
+pub(crate) const CONVERSION_STATUSES: ToolStatuses = ToolStatuses {
+    no_shadow: GENERAL_FAILURE,
     ..COMMON_STATUSES
 };
 
