@@ -185,6 +185,10 @@ faulty_grpck = refl
 faulty_getsubids : faulty "getsubids ann" ≡ Some UnknownTool
 faulty_getsubids = refl
 
+-- nor passwd
+faulty_passwd : faulty "passwd -l ann" ≡ Some UnknownTool
+faulty_passwd = refl
+
 -- the faults come in the same order
 faulty_value : faulty "gpasswd sudo -a" ≡ Some (MissingValue 2)
 faulty_value = refl

@@ -307,6 +307,22 @@ faulty_chage = refl
 faulty_chage_2 : fault (words_of "chage -P R -l -d 0 bob") ≡ Some (Clash 2)
 faulty_chage_2 = refl
 
+-- the rules of passwd
+faulty_passwd : fault (words_of "passwd -P R bob") ≡ Some (Clash 1)
+faulty_passwd = refl
+
+-- `-S` with another option
+faulty_passwd_2 : fault (words_of "passwd -P R -S -x 9 bob") ≡ Some (Clash 2)
+faulty_passwd_2 = refl
+
+-- `-l` with `-u`
+faulty_passwd_3 : fault (words_of "passwd -P R -lu bob") ≡ Some (Clash 3)
+faulty_passwd_3 = refl
+
+-- a conversion has no operand
+faulty_pwconv : fault (words_of "pwconv -P R bob") ≡ Some (TooMany 3)
+faulty_pwconv = refl
+
 -- the rule of chpasswd
 faulty_chpasswd : fault (words_of "chpasswd -P R") ≡ Some (Clash 1)
 faulty_chpasswd = refl
