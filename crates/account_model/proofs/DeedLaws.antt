@@ -1,11 +1,11 @@
 -- Claim: a deed is a change (`deed-is`). Way: a batch with a faulty line has none (`deed-changes`); its new files are made
 -- by the lines of a batch or by the tool (`deed-makes`), each of which leaves a table standing where it stood; they differ
 -- from the old, within their limits.
-use Rattle.std.proofs.Common.{◌≡◌, ◌≢◌, ℕ, ◌≤◌, Bool, true, false, not, ◌&&◌, List, [], ◌∷◌, length, refl, sym, ◌∙◌, ap, subst, inl, inr, map}
+use Rattle.std.proofs.Common.{◌≡◌, ◌≢◌, ℕ, ◌≤◌, Bool, true, false, ◌&&◌, List, [], ◌∷◌, length, refl, sym, ◌∙◌, ap, subst, inl, inr, map}
 use Rattle.std.specs.Prelude.{◌⊎◌, ⊤, Result, Option, Some, None, is_some, nat_le, unwrap_or, Ok, Err, if◌then◌else◌}
 use Rattle.std.specs.List.{list_all, AllByRecursion}
 use Rattle.account_model.specs.Records.{passwd_format, shadow_format, group_format, gshadow_format, subid_format}
-use Rattle.std.proofs.lemmas.Bool.{leb-true, and_cases, true≢false}
+use Rattle.std.proofs.lemmas.Bool.{leb-true, and_cases, not-false, true≢false}
 use Rattle.std.proofs.lemmas.Slice.Eq.{bytes_eq-Decides}
 use Rattle.account_model.specs.declared.tool.Tool.{Tool}
 use Rattle.acct_text.specs.declared.Tab.{Tab}
@@ -103,11 +103,6 @@ each-table P all Group = all.1.1.0
 each-table P all Gshadow = all.1.1.1.0
 each-table P all Subuid = all.1.1.1.1.0
 each-table P all Subgid = all.1.1.1.1.1.0
-
--- a test that passes
-not-false : (b : Bool) → not b ≡ false → b ≡ true
-not-false true e = refl
-not-false false e = cc
 
 -- bytes that don't pass the limit
 limit-by :

@@ -3,7 +3,7 @@
 use Rattle.std.proofs.Common.{◌≡◌, ◌≢◌, ℕ, ◌<◌, Bool, true, false, ◌&&◌, ◌||◌, not, List, [], ◌∷◌, ◌++◌, length, refl, sym, ◌∙◌, ap, arith, inl, inr}
 use Rattle.std.specs.Prelude.{nat_le, bytes_eq, ◌==◌}
 use Rattle.std.specs.List.{list_all, AllByRecursion}
-use Rattle.std.proofs.lemmas.Bool.{eq-eqb, and_parts, true≢false}
+use Rattle.std.proofs.lemmas.Bool.{eq-eqb, and_parts, not-true, true≢false}
 use Rattle.std.proofs.lemmas.Bool.Decides.{eqb_tells}
 use Rattle.acct_text.specs.Bytes.{newline, colon, is_empty}
 use Rattle.acct_text.specs.Pieces.{Lacks, cut_at}
@@ -38,16 +38,6 @@ lacks-byte byte (first ∷ rest) none =
 pub lacks-append : (byte : ℕ) (a b : List ℕ) → Lacks byte a → Lacks byte b → Lacks byte (a ++ b)
 lacks-append byte [] b no_a no_b = no_b
 lacks-append byte (first ∷ a) b no_a no_b = (no_a.0, lacks-append byte a b no_a.1 no_b)
-
--- a test that fails
-pub not-true : (b : Bool) → not b ≡ true → b ≡ false
-not-true true e = cc
-not-true false e = refl
-
--- a test that passes
-pub not-false : (b : Bool) → not b ≡ false → b ≡ true
-not-false true e = refl
-not-false false e = cc
 
 -- ---- Fields
 

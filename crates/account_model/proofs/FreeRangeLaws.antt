@@ -3,7 +3,7 @@ use Rattle.std.proofs.Common.{◌≡◌, zero, suc, ℕ, ◌+◌, ◌-◌, ◌<�
 use Rattle.std.specs.Prelude.{Option, Some, None, filter, nat_le}
 use Rattle.std.specs.List.{list_any, AllByRecursion}
 use Rattle.std.proofs.Math.Nat.{le_antisymm}
-use Rattle.std.proofs.lemmas.Bool.{leb-true, le-leb, and_parts, cases_lt, true≢false}
+use Rattle.std.proofs.lemmas.Bool.{leb-true, le-leb, and_parts, cases_lt, not-false, not-true, true≢false}
 use Rattle.account_model.specs.declared.records.SubidRecord.{SubidRecord}
 use Rattle.account_model.specs.Records.{last_id}
 use Rattle.account_model.specs.FreeRange.{Meeting, FitsAt, IsFreeRange, meets, fits_at, free_range}
@@ -80,11 +80,6 @@ fits-yes low high count records start fits =
           start (start + count - 1) records fits.apart,
     ) refl
 
--- a test that fails
-not-true : (b : Bool) → not b ≡ true → b ≡ false
-not-true true e = cc
-not-true false e = refl
-
 -- what passes the test is a place that fits
 fits-is :
     (low high count : ℕ) (records : List SubidRecord) (start : ℕ)
@@ -152,11 +147,6 @@ meeting-behind :
 meeting-behind t count some [] apart e = cc
 meeting-behind t count some (r ∷ records) apart e = behind-by t count some r records apart
     (meets t (t + count - 1) r) refl e (meeting-behind t count some records apart.1)
-
--- a test that passes
-not-false : (b : Bool) → not b ≡ false → b ≡ true
-not-false true e = refl
-not-false false e = cc
 
 -- a place within the bounds that doesn't fit meets a range
 only-last :

@@ -3,6 +3,7 @@
 -- (`field-kept`).
 use Rattle.std.proofs.Common.{◌≡◌, ℕ, ◌≤◌, Bool, true, false, not, List, [], ◌∷◌, refl, subst}
 use Rattle.std.specs.Prelude.{Option, Some, None, find, is_some, option_map, option_and_then, unwrap_or, if◌then◌else◌}
+use Rattle.std.proofs.lemmas.Bool.{not-false}
 use Rattle.std.specs.List.{AllByRecursion, cons_option}
 use Rattle.std.proofs.lemmas.Slice.Eq.{bytes_eq-Decides}
 use Rattle.acct_text.specs.declared.files.Files.{Files}
@@ -25,7 +26,7 @@ use Rattle.account_model.specs.Values.{given_id, text_value, field_value, list_v
 use Rattle.account_model.specs.Request.{Request, value_of}
 use Rattle.account_model.specs.Refusals.{refuse_if, refuse_value, bad_value, bad_value_of, bad_list_name, missing_user, missing_users}
 use Rattle.account_model.proofs.HeldLaws.{passwd-holds, group-holds}
-use Rattle.account_model.proofs.FieldFacts.{lacks-byte, not-false, both-listed, list-no_comma}
+use Rattle.account_model.proofs.FieldFacts.{lacks-byte, both-listed, list-no_comma}
 
 -- ---- Values
 

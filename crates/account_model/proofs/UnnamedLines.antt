@@ -2,6 +2,7 @@
 -- (`unnamed-within`), and untouched lines stay.
 use Rattle.std.proofs.Common.{◌≡◌, Bool, true, false, not, List, ap, refl, arith}
 use Rattle.std.specs.Prelude.{Option, Some, None}
+use Rattle.std.proofs.lemmas.Bool.{not-true}
 use Rattle.acct_text.specs.declared.files.Files.{Files}
 use Rattle.acct_text.specs.Lines.{Line}
 use Rattle.account_model.specs.Format.{Format}
@@ -18,18 +19,13 @@ use Rattle.account_model.proofs.UntouchedLaws.{weaker-within, within-within}
 
 module _ {R : Type 0} (format : Format R) (names : R → Bool) (edits : List (Edit R))
     (touch : (r : R) → names r ≡ false → touches format edits r ≡ false) where
-  -- a test that fails
-  fails-by : (b : Bool) → not b ≡ true → b ≡ false
-  fails-by true is = absurd (cc is)
-  fails-by false is = refl
-
   -- a line that isn't named isn't touched, by what it reads
   line-by :
       (o : Option R)
       → elim o as (λ r. Bool) [ None ↦ true | Some r ↦ not (names r) ] ≡ true
       → elim o as (λ r. Bool) [ None ↦ true | Some r ↦ not (touches format edits r) ] ≡ true
   line-by None is = refl
-  line-by (Some r) is = ap not (touch r (fails-by (names r) is))
+  line-by (Some r) is = ap not (touch r (not-true (names r) is))
 
   -- so the texts of such lines are within those of untouched lines
   unnamed-within :

@@ -27,13 +27,13 @@ use Rattle.account_model.proofs.ListLaws.{all-append}
 use Rattle.ids_apart.specs.Holders.{has_number, is_given}
 use Rattle.ids_apart.proofs.HolderEdits.{AddsNone, EditsMeetNoMore, none-meets}
 use Rattle.ids_apart.proofs.Keys.{has_key, KeepsKeys, where-keys, where-keep, all-keys-keep}
-use Rattle.ids_apart.proofs.Kept.{uid_key, gid_key, KeepsApart, stays-table, gentle-table}
+use Rattle.ids_apart.proofs.Kept.{uid_key, gid_key, KeepsApart, stays-table, few-table}
 use Rattle.ids_apart.proofs.NewKeys.{IsFreeKey, set-meets}
 use Rattle.ids_apart.proofs.Refusals.{all-none, map-none}
 use Rattle.ids_apart.proofs.Shared.{unshared}
 use Rattle.ids_apart.proofs.Unused.{refuse-fails, unused-count}
 use Rattle.account_model.proofs.ComposedScripts.{IsComposed, all-hold, option-holds, some-holds}
-use Rattle.ids_apart.proofs.Quiet.{LeavesRanges, IsQuiet, leaves-composed, leaves-gentle, quiet-composed, group-hash-quiet}
+use Rattle.ids_apart.proofs.Quiet.{LeavesRanges, IsQuiet, leaves-composed, leaves-none, quiet-composed, group-hash-quiet}
 
 -- ---- The parts of the script
 
@@ -218,7 +218,7 @@ module _ (group : List ℕ) (request : Request) (files : Files) where
       ∷ _ ∷ []) multiple
       in let leaves = script-leaves group request files
       in record {
-        uids = λ uid shares. gentle-table passwd_format (has_key uid_key uid) files.passwd
+        uids = λ uid shares. few-table passwd_format (has_key uid_key uid) files.passwd
             (groupmod_script group request files).passwd
             (all-keys-keep passwd_format uid_key uid
             (groupmod_script group request files).passwd leaves.users);
@@ -228,12 +228,12 @@ module _ (group : List ℕ) (request : Request) (files : Files) where
             (has_option (codes "o") request)
             shares refl passed.1.1.1.1.1.0
             (map-none (λ name. Multiple Group name) _ single.1.1.0));
-        subuids = λ n. gentle-table subid_format (has_number n) files.subuid
+        subuids = λ n. few-table subid_format (has_number n) files.subuid
             (groupmod_script group request files).subuid
-            (leaves-gentle (groupmod_script group request files).subuid leaves.ranges.subuid n);
-        subgids = λ n. gentle-table subid_format (has_number n) files.subgid
+            (leaves-none (groupmod_script group request files).subuid leaves.ranges.subuid n);
+        subgids = λ n. few-table subid_format (has_number n) files.subgid
             (groupmod_script group request files).subgid
-            (leaves-gentle (groupmod_script group request files).subgid leaves.ranges.subgid n);
+            (leaves-none (groupmod_script group request files).subgid leaves.ranges.subgid n);
       }
 
 -- groupmod gives no GID to one more group, but where `-o` names it, and leaves UIDs and ranges

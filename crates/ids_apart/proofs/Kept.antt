@@ -73,13 +73,13 @@ table-meets {X} format test (Some bytes) edits edited written stays =
 
 -- ---- Edits that add none
 
--- such edits of a table
-pub gentle-table :
+-- a table whose edits add none
+pub few-table :
     {X : Type 0} (format : Format X) (test : X → Bool) (bytes : Option (List ℕ))
     (edits : List (Edit X))
     → AllByRecursion (AddsNone format test) edits
     → TableStays format test bytes edits
-gentle-table format test bytes edits add =
+few-table format test bytes edits add =
     stays-table format test bytes edits
     (none-meets format test edits add (table_records format bytes))
 
@@ -97,16 +97,16 @@ pub kept-apart :
     → KeepIds script
     → KeepsApart tool request files script
 kept-apart {files = files} {script = script} keep = record {
-  uids = λ uid shares. gentle-table passwd_format (has_key uid_key uid) files.passwd script.passwd
+  uids = λ uid shares. few-table passwd_format (has_key uid_key uid) files.passwd script.passwd
       (kept-add-none passwd_format (has_key uid_key uid) uid_key
       (λ user other same. ap (λ id. id == uid) same) script.passwd keep.passwd);
-  gids = λ gid shares. gentle-table group_format (has_key gid_key gid) files.group script.group
+  gids = λ gid shares. few-table group_format (has_key gid_key gid) files.group script.group
       (kept-add-none group_format (has_key gid_key gid) gid_key
       (λ group other same. ap (λ id. id == gid) same) script.group keep.group);
-  subuids = λ n. gentle-table subid_format (has_number n) files.subuid script.subuid
+  subuids = λ n. few-table subid_format (has_number n) files.subuid script.subuid
       (kept-add-none subid_format (has_number n) numbers_of (same-numbers n) script.subuid
       keep.subuid);
-  subgids = λ n. gentle-table subid_format (has_number n) files.subgid script.subgid
+  subgids = λ n. few-table subid_format (has_number n) files.subgid script.subgid
       (kept-add-none subid_format (has_number n) numbers_of (same-numbers n) script.subgid
       keep.subgid);
 }

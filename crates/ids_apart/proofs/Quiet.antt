@@ -60,12 +60,12 @@ quiet-composed = record {
 }
 
 -- no edits of ranges
-pub leaves-gentle :
+pub leaves-none :
     (edits : List (Edit SubidRecord))
     → edits ≡ []
     → (number : ℕ)
     → AllByRecursion (AddsNone subid_format (has_number number)) edits
-leaves-gentle edits none number =
+leaves-none edits none number =
     subst (AllByRecursion (AddsNone subid_format (has_number number))) (sym none) tt
 
 -- ---- Members

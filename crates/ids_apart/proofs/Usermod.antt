@@ -33,7 +33,7 @@ use Rattle.ids_apart.specs.Holders.{has_number, is_given}
 use Rattle.account_model.proofs.ComposedScripts.{all-hold, either-holds}
 use Rattle.ids_apart.proofs.HolderEdits.{AddsNone, EditsMeetNoMore, none-meets}
 use Rattle.ids_apart.proofs.Keys.{has_key, each-keep, where-keep, all-keys-keep}
-use Rattle.ids_apart.proofs.Kept.{uid_key, gid_key, TableStays, KeepsApart, stays-table, gentle-table}
+use Rattle.ids_apart.proofs.Kept.{uid_key, gid_key, TableStays, KeepsApart, stays-table, few-table}
 use Rattle.ids_apart.proofs.NewKeys.{IsFreeKey, set-meets}
 use Rattle.ids_apart.proofs.Refusals.{all-none, behind-none, map-none}
 use Rattle.ids_apart.proofs.Shared.{unshared}
@@ -187,7 +187,7 @@ usermod-apart request files day none multiple written_uids written_gids =
           (usermod request files day).script.passwd
           (users-by request files uid (given_uid request) refl shares passed.1.1.0
           (map-none (λ name. Multiple Passwd name) _ single.0));
-      gids = λ gid shares. gentle-table group_format (has_key gid_key gid) files.group
+      gids = λ gid shares. few-table group_format (has_key gid_key gid) files.group
           (usermod request files day).script.group
           (kept-groups request files gid);
       subuids = λ n. subst (TableStays subid_format (has_number n) files.subuid) (sym uids)
