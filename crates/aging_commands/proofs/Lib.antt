@@ -1,3 +1,4 @@
 pub mod ChageLemmas
 pub mod ScriptLemmas
 pub mod HashLineLemmas
+pub mod PasswdLemmas

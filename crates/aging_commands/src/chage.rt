@@ -109,8 +109,8 @@ fn date(asked: &Asked, letter: u8) -> DaysChange
     }
 }
 
-// The number of days that the option gives; `-1` empties the field.
-fn days(asked: &Asked, letter: u8) -> DaysChange
+/// The number of days that the option gives; `-1` empties the field.
+pub(crate) fn days(asked: &Asked, letter: u8) -> DaysChange
     ensures { given_days result ≡ option_and_then days_value (value_of (letter ∷ []) asked.now) }
 {
     match asked.value(letter) {

@@ -101,8 +101,8 @@ fn shown_days(alloc: Global, days: Option<u32>) -> Result<Bytes, AllocError>
     Ok(text)
 }
 
-// A date.
-fn shown_date(alloc: Global, day: Option<u32>) -> Result<Bytes, AllocError>
+/// A date.
+pub(crate) fn shown_date(alloc: Global, day: Option<u32>) -> Result<Bytes, AllocError>
     ensures { IfOk result (λ text. text ≡ text_of_date day) }
 {
     match day {

@@ -1,0 +1,62 @@
+// What `passwd -S` prints of a user (passwd(1), `-S`).
+ghost use Rattle.std.specs.Prelude.{◌≡◌, ◌++◌, ◌∷◌, ◌||◌, IfOk, OnOk};
+ghost use Rattle.acct_text.specs.Bytes.{blank};
+ghost use Rattle.account_model.specs.Useradd.{opens_nothing};
+ghost use Rattle.account_model.specs.Passwd.{password_state as state_of, status_days, status_line};
+
+use crate::listing::shown_date;
+use account_model::ShadowRecord;
+use acct_text::{Bytes, push_decimal};
+use std::alloc::{AllocError, Global};
+
+/// The line of the user, with the hash and the aging of the record.
+pub(crate) fn status_line(
+    alloc: Global,
+    user: &[u8],
+    record: &ShadowRecord,
+) -> Result<Bytes, AllocError>
+    ensures { IfOk result (λ line. line ≡ status_line user.now record.now.hash record.now) }
+{
+    let date = shown_date(alloc, record.last_change)?;
+    let mut line = Bytes::of(alloc, user)?;
+    push_word(&mut line, password_state(record.hash.as_slice()))?;
+    push_word(&mut line, date.as_slice())?;
+    push_days(&mut line, record.minimum)?;
+    push_days(&mut line, record.maximum)?;
+    push_days(&mut line, record.warning)?;
+    push_days(&mut line, record.inactive)?;
+    line.push(b"\n")?;
+    Ok(line)
+}
+
+// Adds a blank and a word.
+fn push_word(line: &mut Bytes, word: &[u8]) -> Result<(), AllocError>
+    ensures { OnOk result (line.new ≡ line.old ++ blank ∷ word.now) }
+{
+    line.push(b" ")?;
+    line.push(word)
+}
+
+// Adds a blank and a number of days.
+fn push_days(line: &mut Bytes, days: Option<u32>) -> Result<(), AllocError>
+    ensures { OnOk result (line.new ≡ line.old ++ blank ∷ status_days days) }
+{
+    match days {
+        Some(days) => {
+            line.push(b" ")?;
+            push_decimal(line, u64::from(days))
+        }
+        None => push_word(line, b"-1"),
+    }
+}
+
+// Whether there is a password, and whether it can be used.
+fn password_state(hash: &[u8]) -> &'static [u8]
+    ensures { result.now ≡ state_of hash.now }
+{
+    match hash.first() {
+        None => b"NP",
+        Some(first) if *first == b'!' || *first == b'*' => b"L",
+        Some(_) => b"P",
+    }
+}
