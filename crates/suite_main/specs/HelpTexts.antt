@@ -74,9 +74,9 @@ fits_columns text = list_all (λ line. nat_le (length line) most_columns) (cut_a
 
 -- ---- The texts
 
--- how the text of a tool begins: with its use, `Usage: accounts TOOL -P DIR ..`
+-- how the text of a tool begins: with its use, `Usage: accounts TOOL -P DIR..`
 abbrev pub use_of : Tool → List ℕ
-use_of tool = codes "Usage: accounts " ++ tool_name tool ++ codes " -P DIR "
+use_of tool = codes "Usage: accounts " ++ tool_name tool ++ codes " -P DIR"
 
 -- the text begins with the tool's use, lists its options and its rules and no others, and fits its
 -- columns

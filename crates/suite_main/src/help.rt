@@ -14,7 +14,12 @@ mod groupadd;
 mod groupdel;
 mod groupmod;
 mod grpck;
+mod grpconv;
+mod grpunconv;
+mod passwd;
 mod pwck;
+mod pwconv;
+mod pwunconv;
 mod useradd;
 mod userdel;
 mod usermod;
@@ -53,6 +58,11 @@ Tools:
   gpasswd    change the members or the password of a group
   chage      change or list the aging of a password
   chpasswd   set the passwords of users
+  passwd     lock, unlock, age or show the password of a user
+  pwconv     move the passwords of users to shadow
+  pwunconv   move the passwords of users to passwd
+  grpconv    move the passwords of groups to gshadow
+  grpunconv  move the passwords of groups to group
   pwck       check or sort passwd and shadow
   grpck      check or sort group and gshadow
   getsubids  list the subordinate IDs of a user
@@ -82,6 +92,11 @@ pub(crate) fn text_of(tool: Tool) -> &'static str
         Tool::Gpasswd => gpasswd::text(),
         Tool::Chage => chage::text(),
         Tool::Chpasswd => chpasswd::text(),
+        Tool::Passwd => passwd::text(),
+        Tool::Pwconv => pwconv::text(),
+        Tool::Pwunconv => pwunconv::text(),
+        Tool::Grpconv => grpconv::text(),
+        Tool::Grpunconv => grpunconv::text(),
         Tool::Pwck => pwck::text(),
         Tool::Grpck => grpck::text(),
         Tool::Getsubids => getsubids::text(),

@@ -1,0 +1,30 @@
+// What `accounts pwconv --help` prints (pwconv(8)).
+ghost use Rattle.std.specs.Prelude.{◌≡◌, true};
+ghost use Rattle.account_model.specs.declared.tool.Tool.TheVariants.{Pwconv};
+ghost use Rattle.suite_main.specs.HelpTexts.{helps_with};
+
+/// The text: the use of pwconv and its options and no others, in lines of at most 80 columns.
+pub(crate) fn text() -> &'static str
+    ensures { helps_with Pwconv result.now ≡ true }
+{
+    "\
+Usage: accounts pwconv -P DIR
+       accounts pwconv --help
+
+Move the passwords of users from passwd to shadow in the system image in DIR.
+Each user gets a line in shadow, and a line of no user goes.
+
+Options:
+  -P, --prefix DIR              directory of the system image; always needed
+  -R, --root DIR                the same as -P
+
+Exit status:
+  0    the passwords are moved, or are so already
+  1    no lock, a file that can't be used or updated, several entries of a name,
+       or shadow does not exist
+  2    words that can't be read
+  100  want of memory
+  102  the output or the message can't be written
+  103  the clock gives no day
+"
+}

@@ -1,0 +1,30 @@
+// What `accounts pwunconv --help` prints (pwunconv(8)).
+ghost use Rattle.std.specs.Prelude.{◌≡◌, true};
+ghost use Rattle.account_model.specs.declared.tool.Tool.TheVariants.{Pwunconv};
+ghost use Rattle.suite_main.specs.HelpTexts.{helps_with};
+
+/// The text: the use of pwunconv and its options and no others, in lines of at most 80 columns.
+pub(crate) fn text() -> &'static str
+    ensures { helps_with Pwunconv result.now ≡ true }
+{
+    "\
+Usage: accounts pwunconv -P DIR
+       accounts pwunconv --help
+
+Move the passwords of users from shadow to passwd in the system image in DIR,
+and empty shadow. The aging of passwords is lost.
+
+Options:
+  -P, --prefix DIR              directory of the system image; always needed
+  -R, --root DIR                the same as -P
+
+Exit status:
+  0    the passwords are moved, or are so already
+  1    no lock, a file that can't be used or updated, several entries of a name,
+       or shadow does not exist
+  2    words that can't be read
+  100  want of memory
+  102  the output or the message can't be written
+  103  the clock gives no day
+"
+}
