@@ -245,6 +245,8 @@ row_of ChangePasswd = record common_row {
   is_for_lines = false;
   reporting = where_given (codes "S") (Passwd ∷ Shadow ∷ []);
   statuses = passwd_statuses;
+  wrapper_letters = codes "q";
+  wrapper_names = codes "quiet" ∷ [];
 }
 row_of Pwconv = record conversion_row { name = codes "pwconv" }
 row_of Pwunconv = record conversion_row { name = codes "pwunconv" }

@@ -283,6 +283,8 @@ pub(crate) static PASSWD: ToolRow = ToolRow {
     is_for_lines: false,
     reporting: Reporting::WhereGiven(b'S', &[Tab::Passwd, Tab::Shadow]),
     statuses: PASSWD_STATUSES,
+    wrapper_letters: b"q",
+    wrapper_names: &["quiet"],
     ..COMMON
 };
 
