@@ -280,7 +280,17 @@ changes-makes request input day old defs new e =
     (answer-makes request input day old (settings_of (unwrap_or defs [])) new
     (files_problem old defs) e).0
 
--- and so are those of a deed
+-- and differ from the old ones
+pub changes-differ :
+    (request : Request) (input : List ℕ) (day : ℕ) (old : Files) (defs : Option (List ℕ))
+    (new : Files)
+    → new_files (answer request input day old defs).cause ≡ Some new
+    → files_eq old new ≡ false
+changes-differ request input day old defs new e =
+    (answer-makes request input day old (settings_of (unwrap_or defs [])) new
+    (files_problem old defs) e).1.differ
+
+-- so those of a deed are made
 pub deed-makes :
     (request : Request) (input : List ℕ) (day : ℕ) (old : Files) (defs : Option (List ℕ))
     (new : Files)

@@ -13,9 +13,9 @@ use Rattle.account_model.specs.declared.tool.Tool.TheVariants.{Groupadd, Groupmo
 use Rattle.account_model.specs.NamedLines.{Named, named_by}
 use Rattle.account_model.specs.Text.{first_some, is_listed}
 use Rattle.account_model.specs.Names.{is_valid_name}
-use Rattle.account_model.specs.Records.{passwd_format, group_format, gshadow_format, greatest_id, is_id}
+use Rattle.account_model.specs.Records.{passwd_format, group_format, greatest_id, is_id}
 use Rattle.account_model.specs.Format.{is_named}
-use Rattle.account_model.specs.Written.{IsField, IsNameField, IsListed, IsPasswd, IsGroup, IsGshadow}
+use Rattle.account_model.specs.Written.{IsField, IsNameField, IsListed, IsPasswd, IsGroup}
 use Rattle.account_model.specs.Tables.{Script, no_edits}
 use Rattle.account_model.specs.WrittenScript.{IsWrittenScript}
 use Rattle.account_model.specs.Values.{is_field, given_gid, list_value}
@@ -29,42 +29,28 @@ use Rattle.account_model.specs.Action.{changes, with_option, with_flag}
 use Rattle.account_model.specs.NewAccount.{kind_of, settings_for, new_hash, new_group, new_gshadow, add_group}
 use Rattle.account_model.specs.Groupadd.{is_gid_taken, other_gid, new_gid, groupadd_checks, groupadd_conflicts, groupadd_script, is_content}
 use Rattle.account_model.specs.Groupmod.{set_gid, gid_script, rename_group, groupmod}
-use Rattle.account_model.specs.Groupdel.{remove_group}
 use Rattle.account_model.specs.Gpasswd.{not_member, gpasswd_refusals, gpasswd_script}
 use Rattle.account_model.proofs.DeedLaws.{first-none}
-use Rattle.account_model.proofs.HeldLaws.{passwd-holds, group-holds, gshadow-holds, each_where-written, drop_where-written}
+use Rattle.account_model.proofs.HeldLaws.{passwd-holds, group-holds, gshadow-holds, each_where-written}
 use Rattle.account_model.proofs.FieldFacts.{is_field-is, empty-field, valid-name}
 use Rattle.account_model.proofs.RefusalFacts.{refuse-none, value-none, good-value, text-kept, given-small, users-listed, user-listed}
 use Rattle.account_model.proofs.SettingBounds.{free-gid-small}
 use Rattle.account_model.proofs.WrittenScripts.{groups-written, elsewhere-field, locked-field}
 use Rattle.account_model.proofs.ComposedScripts.{all-hold, flag-holds, option-holds, some-holds}
-use Rattle.account_model.proofs.KeptIds.{KeepIds, drop-keeps, groups-keep, may-give}
-use Rattle.account_model.proofs.LawfulParts.{administrators-lawful, group-hash-lawful, lines-lawful, members-lawful}
+use Rattle.account_model.proofs.KeptIds.{may-give}
+use Rattle.account_model.proofs.LawfulParts.{administrators-lawful, group-hash-lawful, lines-lawful, members-lawful, removed-lawful}
 use Rattle.account_model.proofs.LawfulScripts.{IsLawful, lawful, lawful-composed}
 use Rattle.account_model.proofs.LawfulTools.{LawfulTool, by-choice, quiet-act}
 use Rattle.account_model.proofs.MemberLaws.{with-listed, without-listed}
 use Rattle.account_model.proofs.NamedLaws.{where-spares, passwd-parts}
-use Rattle.account_model.proofs.NamedParts.{each-spares, first-has, new-group-spares, removed-spares}
+use Rattle.account_model.proofs.NamedParts.{each-spares, first-has, new-group-spares}
 
 -- ---- groupdel
-
--- records that go
-pub remove-group-written : (group : List ℕ) → IsWrittenScript (remove_group group)
-remove-group-written group = groups-written _ _
-    (drop_where-written group_format IsGroup group-holds (is_named group_format group), tt)
-    (drop_where-written gshadow_format IsGshadow gshadow-holds (is_named gshadow_format group), tt)
-
--- and give no GID
-pub remove-group-keeps : (group : List ℕ) → KeepIds (remove_group group)
-remove-group-keeps group =
-    groups-keep _ _ (drop-keeps (λ one. one.gid) (is_named group_format group), tt)
 
 -- groupdel adds nothing
 pub groupdel-lawful : LawfulTool Groupdel
 groupdel-lawful request input day files settings = quiet-act refl refl refl
-    (λ none. lawful (remove-group-written (operand request))
-    (removed-spares _ (operand request) (first-has (operand request) []))
-    (λ none. remove-group-keeps (operand request)))
+    (λ none. removed-lawful _ (operand request) (first-has (operand request) []))
 
 -- ---- gpasswd
 

@@ -17,14 +17,15 @@ use Rattle.account_model.specs.Tables.{no_edits, passwd_records, group_records}
 use Rattle.account_model.specs.Users.{find_user, group_named}
 use Rattle.account_model.specs.Hashes.{demand_gshadow, demand_shadow, each_user_hash, elsewhere, lacks_gshadow, lacks_shadow, make_gshadow, make_shadow, set_administrators, set_group_hash, write_administrators, write_group_hash}
 use Rattle.account_model.specs.Members.{each_members}
+use Rattle.account_model.specs.Groupdel.{remove_group}
 use Rattle.account_model.specs.NamedLines.{Named}
 use Rattle.account_model.proofs.ComposedScripts.{either-holds, some-holds}
-use Rattle.account_model.proofs.KeptIds.{groups-keep, users-keep, where-keeps}
+use Rattle.account_model.proofs.KeptIds.{drop-keeps, groups-keep, users-keep, where-keeps}
 use Rattle.account_model.proofs.LawfulScripts.{IsLawful, lawful, lawful-composed}
 use Rattle.account_model.proofs.NamedLaws.{found-named, groups-spare, users-spare, where-spares}
-use Rattle.account_model.proofs.NamedParts.{each-gshadow-spares, each-spares, make-group-spares, make-spares, other-shadow, other-user}
+use Rattle.account_model.proofs.NamedParts.{each-gshadow-spares, each-spares, make-group-spares, make-spares, other-shadow, other-user, removed-spares}
 use Rattle.account_model.proofs.RefusalFacts.{user-held, group-held}
-use Rattle.account_model.proofs.HeldLaws.{passwd-holds, shadow-holds, group-holds, gshadow-holds, each_where-written}
+use Rattle.account_model.proofs.HeldLaws.{passwd-holds, shadow-holds, group-holds, gshadow-holds, drop_where-written, each_where-written}
 use Rattle.account_model.proofs.WrittenScripts.{group-password-held, groups-written, make-gshadow-written, make-shadow-written, password-held, users-written}
 
 -- ---- Users
@@ -175,6 +176,15 @@ module _ {day : ℕ} {gives sorts : Bool} (named : Named) (group : List ℕ)
         ))
         (groups-spare [] _ tt (each-gshadow-spares named group has sorts g, tt))
         (λ none. groups-keep [] _ tt)
+
+    -- both go
+    pub removed-lawful : IsLawful day gives sorts named (remove_group group)
+    removed-lawful = lawful
+        (groups-written _ _
+        (drop_where-written group_format IsGroup group-holds (is_named group_format group), tt)
+        (drop_where-written gshadow_format IsGshadow gshadow-holds (is_named gshadow_format group), tt))
+        (removed-spares named group has)
+        (λ none. groups-keep _ _ (drop-keeps (λ one. one.gid) (is_named group_format group), tt))
 
     -- members that become others which can stand in a list
     pub members-lawful :

@@ -25,9 +25,9 @@ use Rattle.account_model.proofs.ComposedScripts.{all-hold, some-holds}
 use Rattle.account_model.proofs.LawfulScripts.{IsLawful, lawful, lawful-composed}
 use Rattle.account_model.proofs.LawfulTools.{LawfulTool, quiet-act}
 use Rattle.account_model.proofs.NamedLaws.{Spares, SparesUnnamed, drop-spares, not-owned, unlisted-stays, group-parts, gshadow-parts}
-use Rattle.account_model.proofs.NamedParts.{first-has, other-user, removed-spares, other-shadow}
+use Rattle.account_model.proofs.NamedParts.{first-has, other-user, other-shadow}
 use Rattle.account_model.proofs.MemberLaws.{without-listed}
-use Rattle.account_model.proofs.GroupToolScripts.{remove-group-keeps, remove-group-written}
+use Rattle.account_model.proofs.LawfulParts.{removed-lawful}
 use Rattle.account_model.proofs.KeptIds.{KeepIds, drop-keeps, numbers_of}
 
 -- ranges that go
@@ -133,9 +133,8 @@ module _ (request : Request) (files : Files) where
       {day : ℕ} (kept : Option Kept)
       → IsLawful day false false userdel_names
       (elim kept [ None ↦ remove_group (operand request) | Some reason ↦ no_edits ])
-  own-group-lawful None = lawful (remove-group-written (operand request))
-      (removed-spares userdel_names (operand request) (first-has (operand request) []))
-      (λ none. remove-group-keeps (operand request))
+  own-group-lawful None =
+      removed-lawful userdel_names (operand request) (first-has (operand request) [])
   own-group-lawful (Some reason) = (lawful-composed userdel_names).none
 
 -- userdel adds nothing
