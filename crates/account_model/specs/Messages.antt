@@ -1,7 +1,7 @@
 -- The texts of refusals, as a tool prints them on the error stream. They are this profile's own.
 use Rattle.std.specs.Prelude.{ℕ, List, [], ◌∷◌, ◌++◌, codes, decimal, flat_map, Option, None, Some, if◌then◌else◌}
 use Rattle.account_model.specs.declared.tool.Tool.{Tool}
-use Rattle.account_model.specs.declared.tool.Tool.TheVariants.{Chage}
+use Rattle.account_model.specs.declared.tool.Tool.TheVariants.{Chage, Passwd}
 use Rattle.account_model.specs.declared.refusal.Refusal.{Refusal}
 use Rattle.account_model.specs.declared.refusal.Refusal.TheVariants.{BadName, BadKey, BadValue, UserExists, GroupExists, NoUser, NoGroup, UidInUse, GidInUse, NoFreeUid, NoFreeGid, NoGap, Meets, EmptyHash, PrimaryGroup, NotMember, NoShadow, NoGshadow, BadLine, NoRanges, Multiple}
 use Rattle.account_model.specs.declared.refusal.LineProblem.{LineProblem}
@@ -45,9 +45,11 @@ days_form = codes "-1 or a number from 0 to 2147483647"
 abbrev pub date_form : List ℕ
 date_form = codes "a date as 2026-01-31, days since 1970-01-01, or -1"
 
--- the form of the value of an option by its letter, which has one meaning for all tools but chage
+-- the form of the value of an option by its letter, which has one meaning for all tools but chage and
+-- passwd
 abbrev pub wanted_form : Tool → ℕ → List ℕ
 wanted_form Chage letter = if has_byte letter (codes "dE") then date_form else days_form
+wanted_form Passwd letter = days_form
 wanted_form tool letter =
     if has_byte letter (codes "bds") then path_form else
     if has_byte letter (codes "cp") then field_form else

@@ -30,18 +30,19 @@ const DAYS_FORM: &[u8] = b"-1 or a number from 0 to 2147483647";
 // The form of a date.
 const DATE_FORM: &[u8] = b"a date as 2026-01-31, days since 1970-01-01, or -1";
 
-/// The form of the value of an option by its letter, which has one meaning for all tools but chage.
+/// The form of the value of an option by its letter, which has one meaning for all tools but chage
+/// and passwd.
 pub(crate) fn wanted_form(tool: Tool, letter: u8) -> &'static [u8]
     ensures { result.now ≡ wanted_form tool letter }
 {
     match tool {
         Tool::Chage if is_of(letter, b"dE") => DATE_FORM,
-        Tool::Chage => DAYS_FORM,
+        Tool::Chage | Tool::Passwd => DAYS_FORM,
         _ => common_form(letter),
     }
 }
 
-// The form of the value of an option of another tool than chage.
+// The form of the value of an option of another tool than chage and passwd.
 fn common_form(letter: u8) -> &'static [u8]
     ensures { result.now ≡ wanted_form Tool.Useradd letter }
 {
