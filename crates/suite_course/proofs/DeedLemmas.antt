@@ -2,7 +2,6 @@
 -- and these are the contents that the deed was asked on.
 use Rattle.std.proofs.Common.{◌≡◌, refl, subst, Option, Some, None, option_map, Result, Ok, Err}
 use Rattle.acct_text.specs.Bytes.{Bytes}
-use Rattle.acct_text.specs.declared.Tab.{Tab}
 use Rattle.acct_text.specs.declared.files.Files.{Files}
 use Rattle.acct_text.specs.Contents.{Contents, IsChange}
 use Rattle.acct_text.specs.Files.{table_of}

@@ -12,14 +12,13 @@ use Rattle.acct_text.specs.Bytes.{Bytes}
 use Rattle.acct_text.specs.declared.files.Files.{Files}
 use Rattle.acct_text.specs.Contents.{Contents}
 use Rattle.acct_outside.specs.declared.Name.{Name}
-use Rattle.acct_outside.specs.declared.Name.TheVariants.{Lock, Table}
-use Rattle.acct_outside.specs.Names.{name_limit}
+use Rattle.acct_outside.specs.declared.Name.TheVariants.{Lock}
 use Rattle.acct_outside.specs.declared.Verdict.{Verdict}
 use Rattle.acct_outside.specs.declared.Verdict.TheVariants.{Alive, Dead}
 use Rattle.acct_outside.specs.declared.CommitStage.TheVariants.{Before}
 use Rattle.acct_outside.specs.Tokens.{Token}
 use Rattle.acct_outside.specs.Folder.{Folder, greatest, settings_file, top}
-use Rattle.acct_outside.specs.Calls.{Call, Answer as CallAnswer, CallResult, Found, lists, reads, asks, creates, removes, done, found_absent, found_bytes, found_too_large, found_within}
+use Rattle.acct_outside.specs.Calls.{Call, Answer as CallAnswer, CallResult, Found, lists, reads, asks, creates, removes, done, found_absent, found_bytes, found_too_large}
 use Rattle.acct_outside.specs.History.{Event, History, after, is_of, own_events}
 use Rattle.account_model.specs.Request.{is_report}
 use Rattle.account_model.specs.SeenFiles.{seen_files}

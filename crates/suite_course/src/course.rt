@@ -7,7 +7,7 @@ ghost use Rattle.suite_session.specs.Belongs.{Belongs};
 ghost use Rattle.suite_session.specs.Session.{IsToPut, IsWaiting, answer_of};
 ghost use Rattle.acct_outside.specs.Journal.{Entry};
 ghost use Rattle.suite_course.specs.Asked.{MakesCalls};
-ghost use Rattle.suite_course.specs.Course.{Comes, Concludes, Finished, phase_after};
+ghost use Rattle.suite_course.specs.Course.{Concludes, Finished, phase_after};
 ghost use Rattle.suite_course.specs.Streams.{Serves, streams};
 
 use crate::streams::serve;
@@ -19,7 +19,7 @@ use suite_session::{Session, Tools};
 /// Turns the session to its answer, serves the streams, and lets it answer.
 pub(crate) fn finish<T: Tools, F: Folder, O: Sink, E: Sink>(
     tool: Tool,
-    session: Session<T>,
+    mut session: Session<T>,
     folder: &mut F,
     out: &mut O,
     err: &mut E,
@@ -32,7 +32,9 @@ pub(crate) fn finish<T: Tools, F: Folder, O: Sink, E: Sink>(
     ensures asks { (calls : List Entry) ×
         MakesCalls calls (F.moment folder.old).journal (F.moment folder.new).journal }
 {
-    let session = to_answer(session, folder);
+    while session.is_going() {
+        session.turn(folder);
+    }
     let put = put_answer(tool, &session, out, err);
     conclude(after_streams(session, put), folder)
 }
@@ -73,17 +75,4 @@ fn conclude<T: Tools, F: Folder>(mut session: Session<T>, folder: &mut F) -> Out
 {
     session.turn(folder);
     session.into_outcome()
-}
-
-// Turns the session until it has its answer.
-fn to_answer<T: Tools, F: Folder>(mut session: Session<T>, folder: &mut F) -> Session<T>
-    requires { IsWaiting session }
-    ensures comes { (asked : Question) → session ≡ Waiting asked → Comes asked
-        (F.moment folder.old) (F.moment folder.new) result }
-    ensures answers { IsSome (answer_of result) }
-{
-    while session.is_going() {
-        session.turn(folder);
-    }
-    session
 }

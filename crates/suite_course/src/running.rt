@@ -55,32 +55,10 @@ pub fn run_request<T: Tools, F: Folder, S: Source, O: Sink, E: Sink, C: Clock>(
     ensures no_input { reads_input parsed.tool ≡ false → input.new ≡ input.old }
 {
     let tool = parsed.tool;
-    match supply(alloc, tool, input, clock) {
-        Ok(supplied) => run::<T, F, O, E>(alloc, words, parsed, supplied, folder, out, err),
-        Err(lack) => tell(alloc, tool, lack, out, err),
-    }
-}
-
-// Runs a session in the folder, with its input and on its day.
-fn run<T: Tools, F: Folder, O: Sink, E: Sink>(
-    alloc: Global,
-    words: &[Word],
-    parsed: Parsed,
-    supplied: Supplied,
-    folder: &mut F,
-    out: &mut O,
-    err: &mut E,
-) -> Outcome
-    requires asks { Asks words.now (request_in parsed) }
-    requires lines_ask { LinesAsk parsed.tool supplied.input }
-    ensures finished { Finished
-        (question words.now (request_in parsed) supplied.input supplied.day)
-        (F.moment folder.old) (F.moment folder.new) (streams (O.moment out.old) (E.moment err.old))
-        (streams (O.moment out.new) (E.moment err.new)) result }
-    ensures asks { AsksThere (question words.now (request_in parsed) supplied.input supplied.day)
-        (F.moment folder.old).journal (F.moment folder.new).journal }
-{
-    let tool = parsed.tool;
+    let supplied = match supply(alloc, tool, input, clock) {
+        Ok(supplied) => supplied,
+        Err(lack) => return tell(alloc, tool, lack, out, err),
+    };
     match enter::<T, F>(alloc, words, parsed, supplied, folder) {
         Ok(session) => finish(tool, session, folder, out, err),
         Err(_) => end(

@@ -1,5 +1,5 @@
 // The turns in which a keeper loads the files. After the last read the tool decides.
-ghost use Rattle.suite_session.specs.Loading.{DecidesOn, DecidesTo, EndsAt, LoadsTo};
+ghost use Rattle.suite_session.specs.Loading.{DecidesOn, DecidesTo, EndsAt};
 ghost use Rattle.suite_session.specs.Stands.{StandsAs};
 ghost use Rattle.suite_session.specs.Turning.{TakesTurn};
 
@@ -28,18 +28,9 @@ pub(crate) fn load<T: Tools, F: Folder>(
 {
     loader.is_sound();
     match loader.load_next(folder) {
-        Ok(loading) => after_load::<T>(alloc, runner, loading),
+        Ok(Loading::More(loader)) => State::Loading(loader),
+        Ok(Loading::Done(loaded)) => decided::<T>(alloc, runner, loaded),
         Err(end) => ended(alloc, runner, end),
-    }
-}
-
-// More is to be read, or the tool decides.
-fn after_load<T: Tools>(alloc: Global, runner: &Runner, loading: Loading) -> State
-    ensures { LoadsTo runner.now loading result }
-{
-    match loading {
-        Loading::More(loader) => State::Loading(loader),
-        Loading::Done(loaded) => decided::<T>(alloc, runner, loaded),
     }
 }
 

@@ -34,32 +34,15 @@ pub(crate) fn turned<T: Tools, F: Folder>(alloc: Global, phase: Phase, folder: &
 {
     match phase {
         Phase::Waiting(asked) => begin(alloc, asked, folder),
-        Phase::Begun(runner, state) => stepped::<T, F>(alloc, runner, state, folder),
+        Phase::Begun(runner, state) => match state {
+            State::Answering(answer) => answered(runner, answer, folder),
+            state => {
+                let next = go_on::<T, F>(alloc, &runner, state, folder);
+                Phase::Begun(runner, next)
+            }
+        },
         Phase::Over(runner, answer) => Phase::Over(runner, answer),
         Phase::Unbegun(tool, answer) => Phase::Unbegun(tool, answer),
-    }
-}
-
-// The phase after the one call of a session that has begun: the answer, or another.
-fn stepped<T: Tools, F: Folder>(
-    alloc: Global,
-    runner: Runner,
-    state: State,
-    folder: &mut F,
-) -> Phase
-    requires { Belongs (F.moment folder.old) (Phase.Begun runner state) }
-    ensures turns { SessionTurns (F.moment folder.old) (F.moment folder.new)
-        (Phase.Begun runner state) result }
-    ensures nearer { given_in state ≡ None →
-        phase_left result < calls_left state + appends_left state }
-    ensures ends { IsSome (given_in state) → IsSome (outcome_of result) }
-{
-    match state {
-        State::Answering(answer) => answered(runner, answer, folder),
-        state => {
-            let next = go_on::<T, F>(alloc, &runner, state, folder);
-            Phase::Begun(runner, next)
-        }
     }
 }
 

@@ -3,7 +3,7 @@ use Rattle.suite_session.specs.declared.session.Phase.TheVariants.{Waiting}
 use Rattle.suite_session.specs.Runner.{Question}
 use Rattle.suite_session.specs.Session.{phase_left}
 use Rattle.suite_course.specs.Course.{Comes}
-use Rattle.suite_course.proofs.course.to_answer.Given as goal
+use Rattle.suite_course.proofs.course.finish.Given as goal
 
 -- from the entry the session has come so far
 abbrev pub invariant-loop-session : goal.invariant-loop-session
