@@ -8,6 +8,7 @@ use account_model::Tool;
 use acct_text::Files;
 use aging_commands::chage::{chage, chage_report};
 use aging_commands::chpasswd::chpasswd;
+use aging_commands::passwd::{passwd, passwd_report};
 use check_reports::getsubids::getsubids;
 use check_reports::grpck::grpck;
 use check_reports::pwck::pwck;
@@ -65,6 +66,10 @@ pub(crate) fn answer_of(
         Tool::Chage => {
             let script = chage(alloc, asked, tables)?;
             Ok(Answered::Edits(script, chage_report(alloc, asked, tables)?))
+        }
+        Tool::Passwd => {
+            let script = passwd(alloc, asked, tables)?;
+            Ok(Answered::Edits(script, passwd_report(alloc, asked, tables)?))
         }
         Tool::Usermod => Ok(quietly(alloc, usermod(alloc, asked, tables, day)?)),
         Tool::Groupadd => Ok(quietly(alloc, groupadd(alloc, asked, tables, defs)?)),
