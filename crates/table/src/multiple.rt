@@ -10,7 +10,7 @@ ghost use Rattle.account_model.specs.RecordEdits.{IsWrittenEdit};
 ghost use Rattle.line_edits.specs.SeenEdits.{seen_edit, seen_edits};
 ghost use Rattle.line_edits.specs.Touching.{is_met};
 ghost use Rattle.line_file.specs.Cells.{cell_at, lines_now};
-ghost use Rattle.table.specs.Met.{MeetsAt, earlier, first_in, has_met, meets};
+ghost use Rattle.table.specs.Met.{MeetsAt, first_in, has_met, meets};
 ghost use Rattle.table.specs.TableCells.{cells_there, records_read};
 ghost use Rattle.table.specs.TableEdits.{AreWritten, multiple_by};
 
@@ -39,26 +39,12 @@ impl<'a, R: KeyedRecord + Drop> KeyedCells<'a, R> {
         }
     }
 
-    // The first place with such a record.
-    fn first_met(
+    /// The first place with one that this edit touches.
+    pub(crate) fn met_by(
         &self,
         alloc: Global,
-        edits: &[Edit<R, R::Change>],
+        edit: &Edit<R, R::Change>,
     ) -> Result<Option<usize>, AllocError>
-        requires { AreWritten R.format R.becomes edits.now }
-        ensures { IfOk result (λ place. place
-            ≡ first_in (has_met R.format (seen_edits R.becomes edits.now) self.now) self.now) }
-    {
-        let _ = &self.file;
-        let mut first = None;
-        'edits: for edit in edits {
-            first = earlier(first, self.met_by(alloc, edit)?);
-        }
-        Ok(first)
-    }
-
-    // The first place with one that this edit touches.
-    fn met_by(&self, alloc: Global, edit: &Edit<R, R::Change>) -> Result<Option<usize>, AllocError>
         requires { IsWrittenEdit R.format (seen_edit R.becomes edit.now) }
         ensures { IfOk result (λ place. place ≡
             first_in (has_met R.format (seen_edit R.becomes edit.now ∷ []) self.now) self.now) }
@@ -221,17 +207,6 @@ impl<'a, R: KeyedRecord + Drop> KeyedCells<'a, R> {
             }
         }
         Ok(false)
-    }
-}
-
-// The lower one of two places, or the only one.
-fn earlier(one: Option<usize>, other: Option<usize>) -> Option<usize>
-    ensures { result ≡ earlier one other }
-{
-    match (one, other) {
-        (Some(place), Some(found)) => Some(place.min(found)),
-        (Some(place), None) => Some(place),
-        (None, found) => found,
     }
 }
 
