@@ -1,15 +1,17 @@
 -- Claims: an edit that is one of the last, or needs the key, meets no record in front of the first place
 -- (`settled-no_earlier`); what was asked about stays so as that place becomes lower (`asked-after`), and the
--- places that are told of a key tell whether one with it stands in front (`told-behind`). Way: a record
--- that an edit meets is touched, so it has the key.
+-- places that are reached by a key tell whether one with it stands in front (`reached-no_earlier`). One
+-- that touches records of a name without several meets none (`single-none`). Way: a record that an edit
+-- meets is touched, so it has the key and the name.
 use Rattle.std.proofs.Common.{◌≡◌, ◌∙◌, ℕ, ◌<◌, ◌≤◌, Bool, true, false, eqb, List, [], ◌∷◌, refl, sym, ap, subst, inl, inr, arith}
-use Rattle.std.specs.Prelude.{◌&&◌, AllPairs, IfSome, MatchOption, Option, None, Some}
+use Rattle.std.specs.Prelude.{◌&&◌, AllPairs, IfSome, MatchOption, nat_le, Option, None, Some}
 use Rattle.std.specs.List.{AllByRecursion, list_any}
 use Rattle.std.proofs.lemmas.Bool.{cases_Bool, eqb-true, or_cases}
+use Rattle.std.proofs.lemmas.Slice.Eq.{bytes_eq-Decides}
 use Rattle.account_model.specs.Edits.{is_multiple}
 use Rattle.account_model.specs.Edits as model
 use Rattle.account_model.specs.Edits.Edit.{Become, Add, AddMissing, Put, Arrange}
-use Rattle.account_model.specs.Format.{Format, records_of}
+use Rattle.account_model.specs.Format.{Format, count_named, is_named, records_of}
 use Rattle.account_model.specs.Ids.{is_used}
 use Rattle.account_model.specs.RecordEdits.{TellsSame}
 use Rattle.line_edits.specs.SeenEdits.{seen_edit}
@@ -22,13 +24,13 @@ use Rattle.record_keys.specs.KeyPlaces.{has_key}
 use Rattle.table.specs.Accepting.{is_accepted}
 use Rattle.table.specs.FirstMet.{AreAsked, IsSettled, MeetsNoEarlier, NeedsKey, StandsNoEarlier}
 use Rattle.table.specs.LastEdits.{HoldsOfLast, IsOneOf}
-use Rattle.table.specs.Met.{earlier, first_in, has_met}
+use Rattle.table.specs.Met.{TouchesNamed, earlier, first_in, has_met}
 use Rattle.table.specs.TableCells.{HoldsOf, HoldsThere, Reaches, has_in}
 use Rattle.table.specs.declared.last_edits.LastEdits.{LastEdits}
 use Rattle.table.specs.declared.first_met.FirstMet.{FirstMet}
 use Rattle.table.proofs.MetRecords.{earlier-joined}
 use Rattle.table.proofs.PlaceLemmas.{pairs-first, used-behind}
-use Rattle.table.proofs.ReachLemmas.{there-weaker}
+use Rattle.table.proofs.ReachLemmas.{there-all, there-weaker}
 
 -- ---- The last edits
 
@@ -151,6 +153,47 @@ module _ {R : Type 0} (format : Format R) where
             | inl accepts ↦ read (format.read text) holds.0 accepts
             | inr rejects ↦ here texts holds.1 (rw rejects at is)
           ]
+
+  -- an edit that touches only records of a name without several meets none
+  pub single-none :
+      (edit : model.Edit R) (name : List ℕ) (cells : List Cell)
+      → TouchesNamed format edit name
+      → nat_le 2 (count_named format name (records_of format (lines_now cells))) ≡ false
+      → first_in (has_met format (edit ∷ []) cells) cells ≡ None
+  single-none edit name cells named single =
+      none (first_in (has_met format (edit ∷ []) cells) cells)
+      (first-place (is_met format (edit ∷ []) (records_of format (lines_now cells))) (λ place. ⊥)
+      cells
+      (there-all format
+      (λ place r. is_met format (edit ∷ []) (records_of format (lines_now cells)) r ≡ true → ⊥)
+      cells (λ place r met. unmet r met)))
+    where
+      none : (found : Option ℕ) → IfSome found (λ place. ⊥) → found ≡ None
+      none None holds = refl
+      none (Some place) holds = absurd holds
+
+      never : (touched : Bool) → (touched && false) ≡ false
+      never true = refl
+      never false = refl
+
+      unmet : (r : R)
+          → is_met format (edit ∷ []) (records_of format (lines_now cells)) r ≡ true
+          → ⊥
+      unmet r met = elim (cases_Bool (is_named format name r)) [
+        | inl is ↦
+            let same = (bytes_eq-Decides (format.name r) name).0 is in
+            let both : true ≡ false = sym met
+            ∙ ap (λ name. touches_alone format edit r
+            && nat_le 2 (count_named format name (records_of format (lines_now cells)))) same
+            ∙ ap (λ several. touches_alone format edit r && several) single
+            ∙ never (touches_alone format edit r) in
+            absurd cc
+        | inr isn't ↦
+            let both : true ≡ false = sym met
+            ∙ ap (λ touched. touched && is_multiple format (records_of format (lines_now cells)) r)
+            (named r isn't) in
+            absurd cc
+      ]
 
   module _ (keys_of : R → List ℕ) (cells : List Cell) where
     abbrev whole : List R
