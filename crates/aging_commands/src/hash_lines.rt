@@ -72,7 +72,7 @@ fn read_hash<'a>(
     if has_byte(new.hash, b':') {
         return Err(bad_line(number, LineProblem::HashColon));
     }
-    if tables.user_named(alloc, new.name)?.is_none() {
+    if !tables.has_user(new.name) {
         let name = Bytes::of(alloc, new.name)?;
         return Err(bad_line(number, LineProblem::UnknownUser(name)));
     }

@@ -9,6 +9,7 @@ ghost use Rattle.line_edits.specs.GshadowChanges.{gshadow_becomes};
 ghost use Rattle.line_edits.specs.PasswdChanges.{passwd_becomes};
 ghost use Rattle.line_edits.specs.ShadowChanges.{shadow_becomes};
 ghost use Rattle.line_edits.specs.SubidChanges.{subid_becomes};
+ghost use Rattle.table.specs.Standing.{IsTaken};
 ghost use Rattle.table.specs.TableEdits.{AreWritten, table_by};
 ghost use Rattle.carried_tables.specs.Changes.{StandWhere};
 
@@ -216,7 +217,7 @@ fn push_new(
     new: Option<Bytes>,
 ) -> Result<(), AllocError>
     ensures { (last : Option (List ℕ)) → is_some last ≡ is_some first.now
-        → new ≡ changed_bytes first.now last → OnOk result (tables.new ≡ tables.old
+        → IsTaken first.now last new → OnOk result (tables.new ≡ tables.old
         ++ with_new_table table (changed_bytes first.now last) []) }
 {
     match (first, new) {

@@ -1,6 +1,5 @@
 // A carried table whose records have IDs, beside which the used IDs are kept (passwd(5), group(5)).
 ghost use Rattle.std.specs.Prelude.{◌≡◌, ◌≤◌, List, ◌∷◌, [], None, false, true, is_some, length, map, option_map, IfOk, IfSome, OnOk};
-ghost use Rattle.acct_text.specs.ChangedTables.{changed_bytes};
 ghost use Rattle.account_model.specs.Edits as model;
 ghost use Rattle.account_model.specs.Format.{find_named};
 ghost use Rattle.account_model.specs.RecordEdits.{IsWrittenEdit};
@@ -9,6 +8,7 @@ ghost use Rattle.account_model.specs.Ids.{is_used};
 ghost use Rattle.id_choice.specs.Used.{AreThoseOf};
 ghost use Rattle.line_edits.specs.SeenEdits.{seen_edit};
 ghost use Rattle.carried_tables.specs.KeptIds.{AreIdsOf, FollowEdit, Renumbers, table_counts};
+ghost use Rattle.table.specs.Standing.{IsTaken};
 ghost use Rattle.table.specs.TableEdits.{AreWritten, table_by};
 
 use crate::IdsInUse;
@@ -69,10 +69,10 @@ impl<'a, R: IdRecord + Drop> IdTable<'a, R> {
         self.gather(alloc)
     }
 
-    /// Takes the bytes of the file out where they differ from the first ones, and lets the rest go; none
-    /// where they are the same. They are made in a pass over the lines where the table has an index.
+    /// Takes the bytes of the file out, and lets the rest go; none where the file is lent still and the
+    /// same as this one. They are made in a pass over the lines where the table has an index.
     pub(crate) fn take_change(&mut self, first: &Option<Bytes>) -> Result<Option<Bytes>, AllocError>
-        ensures { IfOk result (λ new. new ≡ changed_bytes first.now self.old) }
+        ensures { IfOk result (IsTaken first.now self.old) }
     {
         self.ids = None;
         self.table.take_change(first)

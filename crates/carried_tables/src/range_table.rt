@@ -2,11 +2,11 @@
 // usermod(8), `-l`; subuid(5), subgid(5)).
 ghost use Rattle.std.specs.Prelude.{◌≡◌, ◌<◌, None, Some, is_some, IfOk, MatchOption, OnOk};
 ghost use Rattle.std.specs.List.{list_any};
-ghost use Rattle.acct_text.specs.ChangedTables.{changed_bytes};
 ghost use Rattle.account_model.specs.Records.{subid_format};
 ghost use Rattle.account_model.specs.Tables.{table_records};
 ghost use Rattle.account_model.specs.FreeRange.{free_range};
 ghost use Rattle.account_model.specs.SubidOwner.{is_owned};
+ghost use Rattle.table.specs.Standing.{IsTaken};
 ghost use Rattle.table.specs.TableEdits.{AreWritten, table_by};
 ghost use Rattle.line_edits.specs.SubidChanges.{subid_becomes};
 
@@ -76,10 +76,10 @@ impl<'a> RangeTable<'a> {
         self.wants_index = true;
     }
 
-    /// Takes the bytes of the file out where they differ from the first ones, and lets the rest go; none
-    /// where they are the same. They are made in a pass over the lines where the table has an index.
+    /// Takes the bytes of the file out, and lets the rest go; none where the file is lent still and the
+    /// same as this one. They are made in a pass over the lines where the table has an index.
     pub(crate) fn take_change(&mut self, first: &Option<Bytes>) -> Result<Option<Bytes>, AllocError>
-        ensures { IfOk result (λ new. new ≡ changed_bytes first.now self.old) }
+        ensures { IfOk result (IsTaken first.now self.old) }
     {
         self.numbers = None;
         self.table.take_change(first)

@@ -75,6 +75,13 @@ pub trait EditedRecord: TableRecord {
     fn leaves(change: &Self::Change, line: &[u8]) -> bool
         ensures { result ≡ true → Leaves Self.format (becomes change.now) line.now };
 
+    /// Whether both changes surely make the same of each record.
+    fn are_same(_one: &Self::Change, _other: &Self::Change) -> bool
+        ensures { result ≡ true → becomes _one.now ≡ becomes _other.now }
+    {
+        false
+    }
+
     /// Marks of which the line of each record has one that the change may touch; none where no such
     /// marks are known, or they are many.
     fn marks(change: &Self::Change) -> Option<Marks<'_>>

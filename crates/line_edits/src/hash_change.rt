@@ -1,5 +1,5 @@
 // What is done with the hash of a user (usermod(8), `-p`, `-L` and `-U`).
-ghost use Rattle.std.specs.Prelude.{◌≡◌, IfOk};
+ghost use Rattle.std.specs.Prelude.{◌≡◌, true, IfOk};
 ghost use Rattle.account_model.specs.Text.{begins_with, exclamation};
 ghost use Rattle.account_model.specs.UsermodHash.{locked_hash, unlocked_hash};
 ghost use Rattle.line_edits.specs.HashChanges.{hash_by};
@@ -30,6 +30,28 @@ impl HashChange {
             HashChange::Lock => locked(alloc, hash.as_slice()),
             HashChange::Unlock => unlocked(alloc, hash.as_slice()),
             HashChange::Keep => hash.copy(),
+        }
+    }
+
+    /// Whether the hash stays as it is.
+    pub(crate) fn leaves(&self, hash: &[u8]) -> bool
+        ensures { result ≡ true → hash_by self.now hash.now ≡ hash.now }
+    {
+        match self {
+            HashChange::Set(new) => new.as_slice() == hash,
+            HashChange::Lock => is_locked(hash),
+            HashChange::Unlock => !is_locked(hash),
+            HashChange::Keep => true,
+        }
+    }
+
+    /// Whether both give the same hash.
+    pub(crate) fn is_same(&self, other: &HashChange) -> bool
+        ensures { result ≡ true → self.now ≡ other.now }
+    {
+        match (self, other) {
+            (HashChange::Set(hash), HashChange::Set(new)) => hash.as_slice() == new.as_slice(),
+            _ => false,
         }
     }
 }

@@ -37,4 +37,4 @@ pub use passwd_changes::{PasswdAct, PasswdChange, UserFields};
 pub use primary_group::PrimaryGroup;
 pub use shadow_changes::{DaysChange, ShadowAct, ShadowChange, ShadowFields};
 pub use subid_changes::{RangeCut, SubidChange};
-pub use touching::{leaves, touches};
+pub use touching::{are_same, leaves, touches};

@@ -4,7 +4,7 @@ ghost use Rattle.account_model.specs.Records.{passwd_format};
 ghost use Rattle.account_model.specs.declared.records.PasswdRecord.{PasswdRecord};
 ghost use Rattle.line_edits.specs.PasswdChanges.{passwd_after, with_user_fields};
 
-use crate::fields::{fourth_field, has_other_name, leaves_name, set_given};
+use crate::fields::{fourth_field, has_other_name, set_given};
 use crate::{Becoming, ChangedNames, EditedRecord, HashChange, PrimaryGroup, Rewritten};
 use account_model::GREATEST_ID;
 use acct_lines::{PasswdRecord, TableRecord};

@@ -1,11 +1,13 @@
 // What the tools do with records of shadow (shadow(5)).
-ghost use Rattle.std.specs.Prelude.{◌≡◌, None, Some, IfOk, OnOk, option_map, unwrap_or};
+ghost use Rattle.std.specs.Prelude.{◌≡◌, true, None, Some, IfOk, OnOk, option_map, unwrap_or};
+ghost use Rattle.account_model.specs.Records.{shadow_format};
+ghost use Rattle.account_model.specs.declared.records.ShadowRecord.{ShadowRecord};
 ghost use Rattle.acct_lines.specs.DaysValues.{days_held};
 ghost use Rattle.line_edits.specs.ShadowChanges.{given_days, shadow_after, with_shadow_fields};
 
-use crate::fields::{has_other_name, leaves_name, set_given};
+use crate::fields::{has_other_name, set_given};
 use crate::{Becoming, ChangedNames, EditedRecord, HashChange, Rewritten};
-use acct_lines::{DaysValue, ShadowRecord, TableRecord};
+use acct_lines::{DaysValue, ShadowLine, ShadowRecord, TableRecord};
 use acct_tables::Marks;
 use acct_text::Bytes;
 use std::alloc::{AllocError, Global};
@@ -139,8 +141,19 @@ impl EditedRecord for ShadowRecord {
 
     fn leaves(change: &ShadowChange, line: &[u8]) -> bool {
         match change {
-            ShadowChange::Named(name, _) => has_other_name(line, name.as_slice()),
+            ShadowChange::Named(name, act) => {
+                has_other_name(line, name.as_slice()) || act_leaves(act, line)
+            }
             ShadowChange::Remove(name) => has_other_name(line, name.as_slice()),
+        }
+    }
+
+    fn are_same(one: &ShadowChange, other: &ShadowChange) -> bool {
+        match (one, other) {
+            (ShadowChange::Named(name, act), ShadowChange::Named(again, other)) => {
+                name.as_slice() == again.as_slice() && are_same(act, other)
+            }
+            _ => false,
         }
     }
 
@@ -159,6 +172,32 @@ impl EditedRecord for ShadowRecord {
     }
 
     ghost no_blank = { refl };
+}
+
+// Whether the act surely leaves the user that the line is, if it is one.
+fn act_leaves(act: &ShadowAct, line: &[u8]) -> bool
+    ensures { result ≡ true → (user : ShadowRecord)
+        → shadow_format.read line.now ≡ Some user → shadow_after act.now user ≡ user }
+{
+    let Ok(user) = ShadowLine::read(line) else {
+        return false;
+    };
+    match act {
+        ShadowAct::ChangeHash(change) => change.leaves(user.hash),
+        ShadowAct::SetLastChange(day) => user.last_change == Some(*day),
+        _ => false,
+    }
+}
+
+// Whether both acts are surely the same.
+fn are_same(one: &ShadowAct, other: &ShadowAct) -> bool
+    ensures { result ≡ true → one.now ≡ other.now }
+{
+    match (one, other) {
+        (ShadowAct::ChangeHash(change), ShadowAct::ChangeHash(again)) => change.is_same(again),
+        (ShadowAct::SetLastChange(day), ShadowAct::SetLastChange(again)) => *day == *again,
+        _ => false,
+    }
 }
 
 // The record after the act.

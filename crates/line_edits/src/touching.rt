@@ -1,4 +1,4 @@
-// Whether an edit touches the record that a line is.
+// Whether an edit touches the record that a line is, and whether two edits are the same.
 ghost use Rattle.std.specs.Prelude.{◌≡◌, true, false, IfOk};
 ghost use Rattle.acct_text.specs.Bytes.{newline};
 ghost use Rattle.acct_text.specs.Pieces.{Lacks};
@@ -22,6 +22,17 @@ pub fn leaves<R: EditedRecord>(edit: &Edit<R, R::Change>, line: &[u8]) -> bool
         Edit::Become(change) => R::leaves(change, line),
         Edit::Put(item) => has_other_name(line, item.name()),
         Edit::Add(_) | Edit::AddMissing(_) => true,
+    }
+}
+
+/// Whether both edits surely do the same with the records of each table.
+pub fn are_same<R: EditedRecord>(one: &Edit<R, R::Change>, other: &Edit<R, R::Change>) -> bool
+    ensures { result ≡ true
+        → seen_edit R.becomes one.now ≡ seen_edit R.becomes other.now }
+{
+    match (one, other) {
+        (Edit::Become(change), Edit::Become(again)) => R::are_same(change, again),
+        _ => false,
     }
 }
 

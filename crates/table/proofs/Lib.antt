@@ -12,3 +12,4 @@ pub mod TableLemmas
 pub mod MetRecords
 pub mod NamedPlaces
 pub mod ReachedNames
+pub mod SettledEdits

@@ -55,7 +55,7 @@ unused-before place (first ∷ places) before =
     ∙ unused-before place places before.1
 
 -- each that is used is behind it
-used-behind :
+pub used-behind :
     (place other : ℕ) (places : List ℕ)
     → AllByRecursion (λ other. place < other) places
     → is_used places other ≡ true

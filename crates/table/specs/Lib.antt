@@ -4,4 +4,6 @@ pub mod TablesOfLines
 pub mod TableEdits
 pub mod TableCells
 pub mod Met
+pub mod LastEdits
+pub mod FirstMet
 pub mod Changed

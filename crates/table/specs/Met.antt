@@ -1,9 +1,9 @@
 -- The records that edits touch and whose names have several, by the places where they stand (passwd(5),
 -- shadow(5), group(5), gshadow(5), subuid(5), subgid(5)).
-use Rattle.std.specs.Prelude.{ℕ, Bool, List, [], ◌∷◌, Option, None, Some, find, min, option_map}
+use Rattle.std.specs.Prelude.{◌≡◌, ℕ, Bool, false, List, [], ◌∷◌, Option, None, Some, find, min, option_map}
 use Rattle.account_model.specs.Edits as model
-use Rattle.account_model.specs.Format.{Format, records_of}
-use Rattle.line_edits.specs.Touching.{is_met}
+use Rattle.account_model.specs.Format.{Format, is_named, records_of}
+use Rattle.line_edits.specs.Touching.{is_met, touches_alone}
 use Rattle.line_file.specs.Cells.{lines_now}
 use Rattle.line_file.specs.declared.cell.Cell.{Cell}
 use Rattle.table.specs.Accepting.{is_accepted}
@@ -25,6 +25,11 @@ abbrev pub MeetsAt :
     {R : Type 0} → Format R → model.Edit R → List Cell → List ℕ → Type 0
 MeetsAt format edit cells places = Reaches format
     (is_met format (edit ∷ []) (records_of format (lines_now cells))) cells places
+
+-- the edit alone touches only records of the name
+abbrev pub TouchesNamed : {R : Type 0} → Format R → model.Edit R → List ℕ → Type 0
+TouchesNamed {R = R} format edit name =
+    (r : R) → is_named format name r ≡ false → touches_alone format edit r ≡ false
 
 -- the place of the first that passes the test
 abbrev pub first_in : (Cell → Bool) → List Cell → Option ℕ

@@ -1,6 +1,6 @@
 -- The file of a table, however it stands (passwd(5), shadow(5), group(5), gshadow(5), subuid(5),
 -- subgid(5)).
-use Rattle.std.specs.Prelude.{ℕ, List, Option, Some, ⊤}
+use Rattle.std.specs.Prelude.{◌≡◌, ◌⊎◌, ℕ, List, Option, None, Some, ⊤}
 use Rattle.acct_text.specs.Lines.{file_bytes}
 use Rattle.acct_tables.specs.SeenLines.{AreOfFile}
 use Rattle.line_file.specs.Cells.{lines_now}
@@ -24,3 +24,7 @@ file_in (Indexed cells) = Some (file_bytes (lines_now cells))
 abbrev pub IsOfFile : Standing (List Cell) → Type 0
 IsOfFile (File file) = ⊤
 IsOfFile (Indexed cells) = AreOfFile (lines_now cells)
+
+-- what is taken out of a table: its file, or none where that is the first one
+abbrev pub IsTaken : (first last new : Option (List ℕ)) → Type 0
+IsTaken first last new = (new ≡ last) ⊎ ((new ≡ None) × (last ≡ first))

@@ -1,6 +1,6 @@
 // Edits of a table's lines where they stand (passwd(5), shadow(5), group(5), gshadow(5), subuid(5),
 // subgid(5)). An edit goes to the places where records may stand that it touches; what it brings there is told before the texts are put.
-ghost use Rattle.std.specs.Prelude.{◌≡◌, ◌<◌, ◌∷◌, [], true, AllPairs, Some, find, option_map, IfOk, OnOk};
+ghost use Rattle.std.specs.Prelude.{◌≡◌, ◌<◌, ◌∷◌, [], true, false, AllPairs, Some, find, option_map, IfOk, OnOk};
 ghost use Rattle.account_model.specs.Edits.{edited, put_first, with_line};
 ghost use Rattle.account_model.specs.Edits as model;
 ghost use Rattle.account_model.specs.RecordEdits.{IsWrittenEdit};
@@ -17,33 +17,57 @@ use record_keys::{KeyedRecord, Spot};
 use std::alloc::{AllocError, Global};
 
 impl<'a, R: KeyedRecord + Drop> KeyedCells<'a, R> {
-    /// Carries the edit out. At `AllocError` it may be made in part.
+    /// Carries the edit out, and tells whether lines may differ then. At `AllocError` it may be made in
+    /// part.
     pub(crate) fn edit(
         &mut self,
         alloc: Global,
         edit: &Edit<R, R::Change>,
-    ) -> Result<(), AllocError>
+    ) -> Result<bool, AllocError>
         requires { IsWrittenEdit R.format (seen_edit R.becomes edit.now) }
-        ensures { OnOk result (lines_now self.new
+        ensures edited { OnOk result (lines_now self.new
             ≡ edited R.format (lines_now self.old) (seen_edit R.becomes edit.now)) }
+        ensures same { IfOk result (λ differ. differ ≡ false
+            → lines_now self.new ≡ lines_now self.old) }
     {
         match edit {
-            Edit::Become(change) => self.change(alloc, change),
-            Edit::Add(item) => self.add(alloc, item),
-            Edit::AddMissing(item) => self.add_missing(alloc, item),
-            Edit::Put(item) => self.put(alloc, item),
+            Edit::Become(change) => return self.change(alloc, change),
+            Edit::Add(item) => self.add(alloc, item)?,
+            Edit::AddMissing(item) => self.add_missing(alloc, item)?,
+            Edit::Put(item) => self.put(alloc, item)?,
         }
+        Ok(true)
     }
 
-    // Puts in place of each record what becomes of it.
-    fn change(&mut self, alloc: Global, change: &R::Change) -> Result<(), AllocError>
+    // Puts in place of each record what becomes of it, and tells whether one may differ then.
+    fn change(&mut self, alloc: Global, change: &R::Change) -> Result<bool, AllocError>
         requires { IsWrittenEdit R.format (model.Become (R.becomes change.now)) }
-        ensures { OnOk result (lines_now self.new
+        ensures edited { OnOk result (lines_now self.new
             ≡ edited R.format (lines_now self.old) (model.Become (R.becomes change.now))) }
+        ensures same { IfOk result (λ differ. differ ≡ false
+            → lines_now self.new ≡ lines_now self.old) }
     {
         let places = self.touched(alloc, change)?;
         self.wear(visits::<R>(change, places.len()));
-        self.change_each(alloc, change, places.as_slice())
+        if self.are_left_at(change, places.as_slice()) {
+            return Ok(false);
+        }
+        self.change_each(alloc, change, places.as_slice())?;
+        Ok(true)
+    }
+
+    // Whether the change surely leaves the records in each of the places.
+    fn are_left_at(&self, change: &R::Change, places: &[usize]) -> bool
+        requires { AllPairs (λ earlier later. earlier < later) places.now }
+        ensures { result ≡ true
+            → self.now ≡ changed_there R.format (R.becomes change.now) places.now self.now }
+    {
+        'places: for place in places {
+            if !self.is_left_at(change, *place) {
+                return false;
+            }
+        }
+        true
     }
 
     // Notes that an edit comes to so many places by a key.

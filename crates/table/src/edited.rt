@@ -1,19 +1,20 @@
 // The lines of a table after edits (passwd(5), shadow(5), group(5), gshadow(5), subuid(5), subgid(5)).
 ghost use Rattle.std.specs.Prelude.{◌≡◌, IfOk};
 ghost use Rattle.account_model.specs.Edits.{edited, edited_by};
-ghost use Rattle.account_model.specs.RecordEdits.{IsWrittenEdit};
 ghost use Rattle.acct_tables.specs.SeenLines.{AreOfFile};
 ghost use Rattle.line_edits.specs.SeenEdits.{seen_edit, seen_edits};
 ghost use Rattle.line_file.specs.Cells.{lines_now};
 ghost use Rattle.table.specs.TableEdits.{AreWritten};
 
 use crate::keyed_cells::KeyedCells;
+use crate::last_edits::{LastEdits, have_same};
 use line_edits::Edit;
 use line_file::FileText;
 use record_keys::KeyedRecord;
 use std::alloc::{AllocError, Global};
 
-/// The lines after the edits, in their order. At `AllocError` there are none.
+/// The lines after the edits, in their order. An edit isn't made that does the same as one of the last,
+/// where these left all lines. At `AllocError` there are none.
 pub(crate) fn edited<'a, R: KeyedRecord + Drop>(
     alloc: Global,
     mut cells: KeyedCells<'a, R>,
@@ -25,26 +26,15 @@ pub(crate) fn edited<'a, R: KeyedRecord + Drop>(
         ≡ edited_by R.format (seen_edits R.becomes edits.now) (lines_now cells.entry)) }
     ensures of_file { IfOk result (λ made. AreOfFile (lines_now made)) }
 {
+    let mut idle = LastEdits::none();
     'edits: for edit in edits {
-        cells = edited_once(alloc, cells, edit)?;
+        if have_same::<R>(&idle, edit) {
+            continue;
+        }
+        cells = renewed(alloc, cells)?;
+        idle = idle.unless(cells.edit(alloc, edit)?, edit);
     }
     Ok(cells)
-}
-
-// The lines after one edit.
-fn edited_once<'a, R: KeyedRecord + Drop>(
-    alloc: Global,
-    cells: KeyedCells<'a, R>,
-    edit: &Edit<R, R::Change>,
-) -> Result<KeyedCells<'a, R>, AllocError>
-    requires of_file { AreOfFile (lines_now cells) }
-    requires written { IsWrittenEdit R.format (seen_edit R.becomes edit.now) }
-    ensures { IfOk result (λ made. lines_now made
-        ≡ edited R.format (lines_now cells.entry) (seen_edit R.becomes edit.now)) }
-{
-    let mut made = renewed(alloc, cells)?;
-    made.edit(alloc, edit)?;
-    Ok(made)
 }
 
 // The same lines, made anew from their bytes where it is time.

@@ -1,8 +1,7 @@
 // The file of a table as it is read (passwd(5), shadow(5), group(5), gshadow(5), subuid(5), subgid(5)).
 ghost use Rattle.std.specs.Prelude.{◌≡◌, None, IfOk};
-ghost use Rattle.acct_text.specs.ChangedTables.{changed_bytes};
 ghost use Rattle.acct_text.specs.Contents.{same_content};
-ghost use Rattle.table.specs.Standing.{file_seen};
+ghost use Rattle.table.specs.Standing.{IsTaken, file_seen};
 
 use acct_text::Bytes;
 use line_file::FileText;
@@ -27,6 +26,7 @@ impl<'a> SeenFile<'a> {
             SeenFile::Made(file) => file,
         }
     }
+
     /// No file.
     pub(crate) fn none() -> Self
         ensures { file_seen result ≡ None }
@@ -50,19 +50,25 @@ impl<'a> SeenFile<'a> {
         }
     }
 
-    /// The file where it differs from this one.
+    /// The file, unless it is lent and the same as this one.
     pub(crate) fn change_of(self, first: &Option<Bytes>) -> Result<Option<Bytes>, AllocError>
-        ensures { IfOk result (λ new. new ≡ changed_bytes first.now (file_seen self.entry)) }
+        ensures { IfOk result (IsTaken first.now (file_seen self.entry)) }
     {
-        if is_same(first, self.file()) {
-            return Ok(None);
-        }
         match self {
-            SeenFile::Lent(Some(text)) => Ok(Some(text.copy()?)),
-            SeenFile::Lent(None) => Ok(None),
+            SeenFile::Lent(file) => lent_change(first, file),
             SeenFile::Made(file) => Ok(file),
         }
     }
+}
+
+// A copy of the file, unless it is the same as the first.
+fn lent_change(first: &Option<Bytes>, file: &Option<Bytes>) -> Result<Option<Bytes>, AllocError>
+    ensures { IfOk result (IsTaken first.now file.now) }
+{
+    if is_same(first, file) {
+        return Ok(None);
+    }
+    copy_of(file)
 }
 
 // Whether both files are absent, or have the same bytes.

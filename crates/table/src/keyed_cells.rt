@@ -130,9 +130,9 @@ impl<'a, R: KeyedRecord + Drop> KeyedCells<'a, R> {
         self.file.text()
     }
 
-    // The places where records may have the key, from the first to the last: those that are told of it, and
-    // all where nothing is told.
-    fn reached(&self, alloc: Global, key: u64) -> Result<Vec<usize>, AllocError>
+    /// The places where records may have the key, from the first to the last: those that are told of it, and
+    /// all where nothing is told.
+    pub(crate) fn reached(&self, alloc: Global, key: u64) -> Result<Vec<usize>, AllocError>
         ensures { IfOk result (λ places.
             Reaches R.format (λ r. has_key key (R.keys r)) self.now places.items) }
     {

@@ -6,8 +6,9 @@
 //! may have it (`record_keys`, gathered by `gathering`). A look-up or an edit reads the texts in the places
 //! of its key, one after another (`texts_there`): they are few, and no other text is a record with the
 //! key. `keyed_cells` looks up by names and tests (`named_texts`), `cell_edits` puts new texts
-//! (`new_texts`), and `multiple` finds the first record that edits touch and whose name has several.
-//! `edited` makes the lines anew now and then.
+//! (`new_texts`), and `multiple` finds the first record that edits touch and whose name has several, edit
+//! by edit (`first_met`). `edited` makes the lines anew now and then. Edits that do the same as one of the
+//! last (`last_edits`) are passed by.
 //!
 //! Where there is no index, edits go to the places of lines that have marks of them, and each makes the
 //! file anew (`edited_text`).
@@ -19,8 +20,10 @@ mod cell_edits;
 mod edited;
 mod file_records;
 mod files;
+mod first_met;
 mod gathering;
 mod keyed_cells;
+mod last_edits;
 mod multiple;
 mod named_texts;
 mod new_texts;

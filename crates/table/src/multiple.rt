@@ -1,7 +1,7 @@
 // The first record that edits of a table touch and whose name has several (passwd(5), shadow(5),
 // group(5), gshadow(5), subuid(5), subgid(5)). An edit is asked about in the places that it is carried
 // out in, one after another, and none about the places of others.
-ghost use Rattle.std.specs.Prelude.{◌≡◌, ◌∷◌, [], Some, find, option_map, IfOk};
+ghost use Rattle.std.specs.Prelude.{◌≡◌, ◌∷◌, [], true, Some, None, find, option_map, IfOk, IfSome};
 ghost use Rattle.std.specs.List.{AllByRecursion, cons_option, list_any};
 ghost use Rattle.acct_text.specs.Bytes.{newline};
 ghost use Rattle.acct_text.specs.Pieces.{Lacks};
@@ -10,14 +10,14 @@ ghost use Rattle.account_model.specs.RecordEdits.{IsWrittenEdit};
 ghost use Rattle.line_edits.specs.SeenEdits.{seen_edit, seen_edits};
 ghost use Rattle.line_edits.specs.Touching.{is_met};
 ghost use Rattle.line_file.specs.Cells.{cell_at, lines_now};
-ghost use Rattle.table.specs.Met.{MeetsAt, earlier, first_in, has_met, meets};
+ghost use Rattle.table.specs.Met.{MeetsAt, TouchesNamed, first_in, has_met, meets};
 ghost use Rattle.table.specs.TableCells.{cells_there, records_read};
 ghost use Rattle.table.specs.TableEdits.{AreWritten, multiple_by};
 
 use crate::keyed_cells::KeyedCells;
 use acct_tables::name_of;
 use acct_text::Bytes;
-use line_edits::{Edit, leaves, touches};
+use line_edits::{ChangedNames, Edit, leaves, touches};
 use line_file::Texts;
 use record_keys::KeyedRecord;
 use std::alloc::{AllocError, Global};
@@ -39,32 +39,34 @@ impl<'a, R: KeyedRecord + Drop> KeyedCells<'a, R> {
         }
     }
 
-    // The first place with such a record.
-    fn first_met(
+    /// The first place with one that this edit touches. None is looked for where the edit touches records
+    /// of one name alone, which is looked up before.
+    pub(crate) fn met_by(
         &self,
         alloc: Global,
-        edits: &[Edit<R, R::Change>],
+        edit: &Edit<R, R::Change>,
     ) -> Result<Option<usize>, AllocError>
-        requires { AreWritten R.format R.becomes edits.now }
-        ensures { IfOk result (λ place. place
-            ≡ first_in (has_met R.format (seen_edits R.becomes edits.now) self.now) self.now) }
-    {
-        let _ = &self.file;
-        let mut first = None;
-        'edits: for edit in edits {
-            first = earlier(first, self.met_by(alloc, edit)?);
-        }
-        Ok(first)
-    }
-
-    // The first place with one that this edit touches.
-    fn met_by(&self, alloc: Global, edit: &Edit<R, R::Change>) -> Result<Option<usize>, AllocError>
         requires { IsWrittenEdit R.format (seen_edit R.becomes edit.now) }
         ensures { IfOk result (λ place. place ≡
             first_in (has_met R.format (seen_edit R.becomes edit.now ∷ []) self.now) self.now) }
     {
+        if self.is_of_single(alloc, edit)? {
+            return Ok(None);
+        }
         let places = self.met_places(alloc, edit)?;
         self.met_of(alloc, edit, places.as_slice())
+    }
+
+    // Whether the edit surely touches records of one name alone, which hasn't several.
+    fn is_of_single(&self, alloc: Global, edit: &Edit<R, R::Change>) -> Result<bool, AllocError>
+        ensures { IfOk result (λ single. single ≡ true →
+            first_in (has_met R.format (seen_edit R.becomes edit.now ∷ []) self.now) self.now
+            ≡ None) }
+    {
+        match touched_name::<R>(edit) {
+            Some(name) => Ok(!self.has_several(alloc, name)?),
+            None => Ok(false),
+        }
     }
 
     // The places where such records may stand, from the first to the last.
@@ -224,14 +226,17 @@ impl<'a, R: KeyedRecord + Drop> KeyedCells<'a, R> {
     }
 }
 
-// The lower one of two places, or the only one.
-fn earlier(one: Option<usize>, other: Option<usize>) -> Option<usize>
-    ensures { result ≡ earlier one other }
+// The name of all records that the edit may touch; none where it may touch others.
+fn touched_name<R: KeyedRecord>(edit: &Edit<R, R::Change>) -> Option<&[u8]>
+    ensures { IfSome result (λ name.
+        TouchesNamed R.format (seen_edit R.becomes edit.now) name.now) }
 {
-    match (one, other) {
-        (Some(place), Some(found)) => Some(place.min(found)),
-        (Some(place), None) => Some(place),
-        (None, found) => found,
+    let Edit::Become(change) = edit else {
+        return None;
+    };
+    match R::touched_names(change) {
+        Some(ChangedNames::One(name)) => Some(name),
+        _ => None,
     }
 }
 

@@ -1,10 +1,9 @@
 // A table that is carried from command to command, as the bytes of its file (passwd(5), shadow(5),
 // group(5), gshadow(5), subuid(5), subgid(5)).
 ghost use Rattle.std.specs.Prelude.{◌≡◌, None, filter, find, is_some, nat_le, IfOk, OnOk};
-ghost use Rattle.acct_text.specs.ChangedTables.{changed_bytes};
 ghost use Rattle.account_model.specs.Format.{count_named, find_named, has_named, is_named};
 ghost use Rattle.account_model.specs.Tables.{table_records};
-ghost use Rattle.table.specs.Standing.{IsOfFile, file_in, file_seen};
+ghost use Rattle.table.specs.Standing.{IsOfFile, IsTaken, file_in, file_seen};
 ghost use Rattle.table.specs.TableEdits.{AreWritten, multiple_by, table_by};
 
 use crate::edited::edited;
@@ -112,14 +111,14 @@ impl<'a, R: KeyedRecord + Drop> Table<'a, R> {
         }
     }
 
-    /// Takes the bytes of the file out where they differ from these, and lets the rest go; none where they
-    /// are the same. They are made in a pass over the lines where the table has an index.
+    /// Takes the bytes of the file out, and lets the rest go; none where the file is lent still and the
+    /// same as this one. They are made in a pass over the lines where the table has an index.
     pub fn take_change(&mut self, first: &Option<Bytes>) -> Result<Option<Bytes>, AllocError>
-        ensures { IfOk result (λ new. new ≡ changed_bytes first.now self.old) }
+        ensures { IfOk result (IsTaken first.now self.old) }
     {
         match self.take_standing() {
             Standing::File(file) => file.change_of(first),
-            Standing::Indexed(cells) => SeenFile::Made(Some(cells.text()?)).change_of(first),
+            Standing::Indexed(cells) => Ok(Some(cells.text()?)),
         }
     }
 

@@ -21,7 +21,7 @@ pub fn demand_gshadow(
     ensures { OnOk result
         (HasAlso (gshadow_on_demand name.now tables.now) script.old script.new) }
 {
-    if !tables.has_gshadow_file() || tables.gshadow_named(alloc, name)?.is_some() {
+    if !tables.has_gshadow_file() || tables.has_gshadow(name) {
         return Ok(());
     }
     match tables.group_named(alloc, name)? {

@@ -23,7 +23,7 @@ pub fn demand_shadow(
     ensures { OnOk result
         (HasAlso (shadow_on_demand name.now tables.now) script.old script.new) }
 {
-    if !tables.has_shadow_file() || tables.shadow_named(alloc, name)?.is_some() {
+    if !tables.has_shadow_file() || tables.has_shadow(name) {
         return Ok(());
     }
     match tables.user_named(alloc, name)? {

@@ -6,9 +6,9 @@ use Rattle.line_edits.specs.declared.shadow_changes.ShadowChange.TheVariants.{Na
 use Rattle.line_edits.proofs.LeftLemmas.{other-name}
 use Rattle.line_edits.proofs.shadow_changes.ShadowRecordEditedRecord.leaves.Goals as goal
 
-pub returns-in-Named : goal.returns-in-Named
-returns-in-Named c = λ yes r read.
-    let act = c.in-Named.field-1 in
+pub returns-then-has_other_name : goal.returns-then-has_other_name
+returns-then-has_other_name c = λ yes r read.
+    let act = c.in-Named.act in
     let other = other-name shadow_format c.args.line.now c.as_slice.result.now r shadow-names_first
     (sym c.has_other_name.ensures ∙ yes) read in
     ap (λ change. shadow_becomes change r) c.in-Named.is

@@ -1,4 +1,4 @@
-use Rattle.std.proofs.Common.{◌∙◌, ℕ, ◌+◌, List, [], ◌∷◌, drop, ap, sym, subst, arith}
+use Rattle.std.proofs.Common.{◌≡◌, ◌∙◌, ℕ, ◌+◌, List, [], ◌∷◌, drop, ap, sym, subst, arith}
 use Rattle.std.proofs.Math.ListN.{drop_of_length-le}
 use Rattle.std.specs.Prelude.{Option}
 use Rattle.account_model.specs.Edits as model
@@ -8,36 +8,71 @@ use Rattle.line_edits.proofs.EditLists.{edit-at, seen-from}
 use Rattle.line_file.specs.Cells.{ArePlaced}
 use Rattle.table.specs.Met.{earlier, first_in, has_met}
 use Rattle.table.proofs.MetRecords.{earlier-joined, earlier-none, met-more, met-none}
+use Rattle.table.proofs.SettledEdits.{settled-no_earlier}
 use Rattle.table.proofs.keyed_cells.KeyedCells.first_met.Goals as goal
 
-pub met_by-requires : goal.met_by-requires
-met_by-requires g c =
+pub met_after-requires-clause-written : goal.met_after-requires-clause-written
+met_after-requires-clause-written g c =
     edit-at g.R.EditedRecord.becomes (IsWrittenEdit g.R.TableRecord.format) c.args.edits.now
     c.edits.edit-index c.edit-item.result c.requires (omega arith) c.edit-item.is
 
+-- the place of the next edit isn't lower
+pub edits-preserved-then-is_settled : goal.edits-preserved-then-is_settled
+edits-preserved-then-is_settled g c = record {
+  first =
+      let format = g.R.TableRecord.format in
+      let becomes = g.R.EditedRecord.becomes in
+      let cells = c.args.self.now in
+      let edits = c.args.edits.now in
+      let index = c.edits.edit-index in
+      let edit = c.edit-item.result in
+      let first = c.edits.met.place in
+      let place : List (model.Edit g.row.R.Denot) → Option ℕ =
+      λ edits. first_in (has_met format edits cells) cells in
+      let here = place (seen_edit becomes edit ∷ []) in
+      let later = place (seen_edits becomes (drop (index + 1) edits)) in
+      let placed = subst ArePlaced c.self.view_is c.self.invariant.placed in
+      let settled : earlier first here ≡ first =
+      settled-no_earlier format g.R.KeyedRecord.keys cells becomes
+      g.met.R.TableRecord.is_line_format.same (seen_edit becomes edit) c.edits.met
+      c.edits.invariant.asked
+      (c.is_settled.ensures c.if-is_settled.true) in
+      ap (λ first. earlier first later) (sym settled)
+      ∙ earlier-joined first here later
+      ∙ ap (earlier first)
+      (sym (ap place (seen-from becomes edits index edit (omega arith) c.edit-item.is)
+      ∙ met-more format cells g.met.R.TableRecord.is_line_format.same (seen_edit becomes edit)
+      (seen_edits becomes (drop (index + 1) edits)) placed))
+      ∙ c.edits.invariant.first;
+  asked = c.edits.invariant.asked;
+}
+
 -- the place of the next edit, or a lower one
 pub edits-preserved : goal.edits-preserved
-edits-preserved g c =
-    let format = g.R.TableRecord.format in
-    let becomes = g.R.EditedRecord.becomes in
-    let cells = c.args.self.now in
-    let edits = c.args.edits.now in
-    let index = c.edits.edit-index in
-    let edit = c.edit-item.result in
-    let first = c.edits.first in
-    let place : List (model.Edit g.row.R.Denot) → Option ℕ =
-    λ edits. first_in (has_met format edits cells) cells in
-    let here = place (seen_edit becomes edit ∷ []) in
-    let later = place (seen_edits becomes (drop (index + 1) edits)) in
-    let placed = subst ArePlaced c.self.view_is c.self.invariant.placed in
-    ap (λ one. earlier one later)
-    (c.earlier-first.ensures ∙ ap (earlier first) (c.in_ok-met_by.ensures {u = tt}))
-    ∙ earlier-joined first here later
-    ∙ ap (earlier first)
-    (sym (ap place (seen-from becomes edits index edit (omega arith) c.edit-item.is)
-    ∙ met-more format cells g.met.R.TableRecord.is_line_format.same (seen_edit becomes edit)
-    (seen_edits becomes (drop (index + 1) edits)) placed))
-    ∙ c.edits.invariant
+edits-preserved g c = record {
+  first =
+      let format = g.R.TableRecord.format in
+      let becomes = g.R.EditedRecord.becomes in
+      let cells = c.args.self.now in
+      let edits = c.args.edits.now in
+      let index = c.edits.edit-index in
+      let edit = c.edit-item.result in
+      let first = c.edits.met.place in
+      let place : List (model.Edit g.row.R.Denot) → Option ℕ =
+      λ edits. first_in (has_met format edits cells) cells in
+      let here = place (seen_edit becomes edit ∷ []) in
+      let later = place (seen_edits becomes (drop (index + 1) edits)) in
+      let placed = subst ArePlaced c.self.view_is c.self.invariant.placed in
+      let met = c.in_ok-met.ensures {u = tt} in
+      ap (λ first. earlier first later) met.place
+      ∙ earlier-joined first here later
+      ∙ ap (earlier first)
+      (sym (ap place (seen-from becomes edits index edit (omega arith) c.edit-item.is)
+      ∙ met-more format cells g.met.R.TableRecord.is_line_format.same (seen_edit becomes edit)
+      (seen_edits becomes (drop (index + 1) edits)) placed))
+      ∙ c.edits.invariant.first;
+  asked = let met = c.in_ok-met.ensures {u = tt} in met.asked;
+}
 
 -- no edit is left
 pub returns : goal.returns
@@ -46,9 +81,11 @@ returns g c =
     let becomes = g.R.EditedRecord.becomes in
     let cells = c.args.self.now in
     let edits = c.args.edits.now in
+    let first = c.edits.met.place in
     let place : List (model.Edit g.row.R.Denot) → Option ℕ =
     λ edits. first_in (has_met format edits cells) cells in
-    sym (ap (λ left. earlier c.edits.first (place (seen_edits becomes left))) (drop_of_length-le edits (omega arith))
-    ∙ ap (earlier c.edits.first) (met-none format cells cells)
-    ∙ earlier-none c.edits.first)
-    ∙ c.edits.invariant
+    sym (ap (λ left. earlier first (place (seen_edits becomes left)))
+    (drop_of_length-le edits (omega arith))
+    ∙ ap (earlier first) (met-none format cells cells)
+    ∙ earlier-none first)
+    ∙ c.edits.invariant.first
