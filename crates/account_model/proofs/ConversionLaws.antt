@@ -146,10 +146,11 @@ module _ {M H : Type 0} (accounts : Accounts M H)
         | Some h ↦ accounts.with_field (accounts.hash h) m
       ])
       ≡ login_hash accounts hashes m
-  login-shown hashes m None none hidden = elim (cases_Bool (bytes_eq (accounts.field m) elsewhere)) [
-    | inl same ↦ rw (same, none) refl
-    | inr differ ↦ rw differ refl
-  ]
+  login-shown hashes m None none hidden =
+      elim (cases_Bool (bytes_eq (accounts.field m) elsewhere)) [
+        | inl same ↦ rw (same, none) refl
+        | inr differ ↦ rw differ refl
+      ]
   login-shown hashes m (Some h) found hidden =
       let same : bytes_eq (accounts.field m) elsewhere ≡ true =
       (bytes_eq-Decides (accounts.field m) elsewhere).1 (hidden refl)

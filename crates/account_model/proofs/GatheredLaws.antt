@@ -139,7 +139,8 @@ module _ {M H : Type 0} (accounts : Accounts M H) (take : M → H → H) (made :
   found-one m hashes name o is = elim (cases_Bool (bytes_eq (accounts.main.name m) name)) [
     | inl same ↦
         let same_name = (bytes_eq-Decides (accounts.main.name m) name).0 same
-        in named-so o same (subst (λ other. find_named accounts.hashes other hashes ≡ o) same_name is)
+        in named-so o same
+        (subst (λ other. find_named accounts.hashes other hashes ≡ o) same_name is)
     | inr differ ↦ other-name o differ
   ]
     where
@@ -305,6 +306,7 @@ module _ {M H : Type 0} (accounts : Accounts M H) (take : M → H → H) (made :
     record {
       hidden = all-with (λ m. accounts.field m ≡ elsewhere) (accounts.with_field elsewhere)
           both.mains (field_of elsewhere);
-      names = λ name. has-gathered both.mains both.hashes name ∙ sym (has-with accounts field_of name_of name both.mains);
+      names = λ name. has-gathered both.mains both.hashes name
+          ∙ sym (has-with accounts field_of name_of name both.mains);
     },
   )

@@ -160,7 +160,8 @@ module _ {R : Type 0} (format : Format R) (tells : TellsSame format)
         let begins : begins_with exclamation (hash (changed locked_hash r)) ≡ true =
         rw (hash_of (locked_hash (hash r)) r, locked_hash, unlocked) refl
         in absurd (true≢false (sym begins
-        ∙ ap (λ s. begins_with exclamation (hash s)) (sym ((tells r (changed locked_hash r)).0 same))
+        ∙ ap (λ s. begins_with exclamation (hash s))
+        (sym ((tells r (changed locked_hash r)).0 same))
         ∙ unlocked))
     | inr differ ↦ differ
   ]

@@ -41,10 +41,14 @@ there-of true is = refl
 there-of false is = cc
 
 -- without edits no name is touched
-none-touched : {R : Type 0} (format : Format R) (records : List R) → first_multiple format [] records ≡ None
+none-touched :
+    {R : Type 0} (format : Format R) (records : List R)
+    → first_multiple format [] records ≡ None
 none-touched {R = R} format records = ap (option_map format.name) (none records)
   where
-    none : (others : List R) → find (λ r. touches format [] r && is_multiple format records r) others ≡ None
+    none :
+        (others : List R)
+        → find (λ r. touches format [] r && is_multiple format records r) others ≡ None
     none [] = refl
     none (r ∷ others) = none others
 
@@ -167,7 +171,8 @@ module _ (tool : Tool) (prefix user : List ℕ) (files : Files) where
       → Back old middle
   unlock-back old middle there some single back =
       outcome-is (unlock_by middle) middle (rw (there, some) refl) single
-      ∙ ap (λ (new : Files). Ok (record { files = new; status = 0; output = []; notices = [] })) back
+      ∙ ap (λ (new : Files). Ok (record { files = new; status = 0; output = []; notices = [] }))
+      back
 
   -- ---- In shadow
 

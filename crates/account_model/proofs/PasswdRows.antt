@@ -131,7 +131,8 @@ aging : after "x90 w14" "bob" image ≡ bob_becomes "bob:$y$hash:19800:0:90:14::
 unfolding digits
 aging = refl
 
-more_aging : after "n1 i-1" "a" (with_hash "a:h:3:4:5:6:7:8:r") ≡ made (with_hash "a:h:3:1:5:6::8:r")
+more_aging : after "n1 i-1" "a" (with_hash "a:h:3:4:5:6:7:8:r")
+    ≡ made (with_hash "a:h:3:1:5:6::8:r")
 unfolding digits
 more_aging = refl
 

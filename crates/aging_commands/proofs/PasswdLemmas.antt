@@ -12,7 +12,8 @@ use Rattle.aging_commands.specs.AgingFields.{counting_record}
 -- the hash of a record that may be there
 hash-by :
     (user field : List ℕ) (found : Option ShadowRecord)
-    → (unwrap_or found (hash_alone user field)).hash ≡ unwrap_or (option_map (λ r. r.hash) found) field
+    → (unwrap_or found (hash_alone user field)).hash
+    ≡ unwrap_or (option_map (λ r. r.hash) found) field
 hash-by user field None = refl
 hash-by user field (Some r) = refl
 

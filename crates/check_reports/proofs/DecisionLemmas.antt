@@ -2,7 +2,7 @@
 -- sorts two tables lists those that differ then (`tables-sorted`), as pwck and grpck do
 -- (`users_sorted`, `groups_sorted`). Way: without edits no name has multiple entries, and the files
 -- stay; a sort touches no record.
-use Rattle.std.proofs.Common.{◌≡◌, ◌∙◌, ◌++◌, ℕ, true, List, [], ◌∷◌, refl, sym, ap, ap₂}
+use Rattle.std.proofs.Common.{◌≡◌, ◌∙◌, ◌++◌, ℕ, Bool, true, false, List, [], ◌∷◌, refl, sym, ap, ap₂}
 use Rattle.std.specs.Prelude.{Option, Some, None, Ok}
 use Rattle.acct_text.specs.declared.files.Files.{Files}
 use Rattle.account_model.specs.declared.refusal.Refusal.{Refusal}
@@ -13,21 +13,28 @@ use Rattle.acct_text.specs.Contents.{Contents, same_content}
 use Rattle.acct_text.specs.Files.{table_of}
 use Rattle.acct_text.specs.declared.Tab.{Tab}
 use Rattle.acct_text.specs.declared.Tab.TheVariants.{Passwd, Shadow, Group, Gshadow}
-use Rattle.account_model.specs.Action.{made_by, outcome_of, reports, multiple_entries}
-use Rattle.account_model.specs.Edits.{Arrange, first_multiple}
+use Rattle.account_model.specs.Action.{changes, made_by, outcome_of, reports, multiple_in, multiple_entries}
+use Rattle.account_model.specs.Edits.{Edit, Arrange, first_multiple}
 use Rattle.account_model.specs.Format.{Format}
 use Rattle.account_model.specs.Grpck.{grpck_sort, sorted_groups}
 use Rattle.account_model.specs.Pwck.{pwck_sort, sorted_users}
 use Rattle.account_model.specs.Records.{passwd_format, shadow_format, group_format, gshadow_format}
 use Rattle.account_model.specs.Tables.{Script, no_edits, files_after, table_after, table_records, passwd_records, shadow_records, group_records, gshadow_records}
+use Rattle.account_model.specs.Refusals.{refuse_if}
 use Rattle.account_model.specs.Text.{first_some}
-use Rattle.tool_answers.specs.Decisions.{decision_by, decision_of, made_output}
+use Rattle.tool_answers.specs.Decisions.{decision_by, decision_of, made_output, refusal_output}
 use Rattle.tool_answers.specs.declared.decision.Decision.{Decision}
-use Rattle.tool_answers.specs.declared.decision.Decision.TheVariants.{Same}
+use Rattle.tool_answers.specs.declared.decision.Decision.TheVariants.{Same, Refuse}
 use Rattle.account_model.proofs.NoEdits.{files-stay}
 use Rattle.account_model.proofs.SameLaws.{bytes-self}
 use Rattle.acct_text.proofs.ChangedTablesLemmas.{changed_among-cons, with_new_table-append}
 use Rattle.tool_answers.proofs.ListedTables.{added}
+use Rattle.account_model.specs.declared.records.PasswdRecord.{PasswdRecord}
+use Rattle.account_model.specs.declared.records.ShadowRecord.{ShadowRecord}
+use Rattle.account_model.specs.declared.records.GroupRecord.{GroupRecord}
+use Rattle.account_model.specs.declared.records.GshadowRecord.{GshadowRecord}
+use Rattle.check_reports.specs.declared.conversion.Pair.{Pair}
+use Rattle.check_reports.specs.Converted.{Converts}
 use Rattle.check_reports.specs.Decided.{DecidesBy}
 use Rattle.check_reports.specs.Sorted.{Sorts, place_in}
 
@@ -195,3 +202,121 @@ module _ {M R : Type 0} (main_format : Format M) (format : Format R) (key : M �
       (ap₂ (λ file content. with_new_table hashes (changed_bytes file content) []) of_hashes like)
       ∙ both-listed old new main hashes
       ∙ is.leaves_others
+
+-- two tables that differ are all that do, where the script leaves the others
+pub pair-listed :
+    (script : Script) (files : Files) (main hashes : Tab)
+    (main_file hashes_file new_main new_hashes : Option (List ℕ)) (none one both : List NewTable)
+    → main_file ≡ table_of files main
+    → hashes_file ≡ table_of files hashes
+    → table_of (files_after script files) main ≡ new_main
+    → table_of (files_after script files) hashes ≡ new_hashes
+    → changed_among (main ∷ hashes ∷ []) (table_of files) (table_of (files_after script files))
+    ≡ changed_tables (table_of files) (table_of (files_after script files))
+    → none ≡ []
+    → one ≡ none ++ with_new_table main (changed_bytes main_file new_main) []
+    → both ≡ one ++ with_new_table hashes (changed_bytes hashes_file new_hashes) []
+    → both ≡ changed_tables (table_of files) (table_of (files_after script files))
+pair-listed script files main hashes main_file hashes_file new_main new_hashes none one both
+    of_main of_hashes main_is hashes_is others none_is one_is both_is =
+    let old = table_of files in
+    let new = table_of (files_after script files) in
+    let first : one ≡ added old new main =
+    one_is ∙ ap₂ (λ none content. none ++ content) none_is
+    (ap₂ (λ file content. with_new_table main (changed_bytes file content) []) of_main
+    (sym main_is))
+    in
+    both_is
+    ∙ ap₂ (λ one content. one ++ content) first
+    (ap₂ (λ file content. with_new_table hashes (changed_bytes file content) []) of_hashes
+    (sym hashes_is))
+    ∙ both-listed old new main hashes
+    ∙ others
+
+module _ (tool : Tool) (script : Script) (files : Files) (test : Bool) (absent : Refusal)
+    (decision : Decision) where
+  -- without a table that is wanted it is refused
+  pub absent-decides :
+      test ≡ true
+      → decision ≡ Refuse absent (refusal_output tool absent)
+      → DecidesBy tool (changes (refuse_if test absent ∷ []) script) files decision
+  absent-decides is_absent is = is ∙ (rw (is_absent) refl)
+
+  -- and else the script decides
+  pub script-decides :
+      test ≡ false
+      → DecidesBy tool (changes [] script) files decision
+      → DecidesBy tool (changes (refuse_if test absent ∷ []) script) files decision
+  script-decides stands is = is ∙ (rw stands refl)
+
+-- a touched name of which the table has several refuses
+pub multiple-decides :
+    (tool : Tool) (script : Script) (files : Files) (decision : Decision) (found : Refusal)
+    → multiple_entries script files ≡ Some found
+    → decision ≡ Refuse found (refusal_output tool found)
+    → DecidesBy tool (changes [] script) files decision
+multiple-decides tool script files decision found multiple is =
+    is ∙ (rw (outcome_of, multiple) refl)
+
+-- the first of two is that of them and nothing behind
+first-of-two :
+    (one two : Option Refusal)
+    → first_some (one ∷ two ∷ None ∷ None ∷ []) ≡ first_some (one ∷ two ∷ [])
+first-of-two None None = refl
+first-of-two None (Some two) = refl
+first-of-two (Some one) two = refl
+
+-- edits of users alone convert them
+pub users-convert :
+    (main_edits : List (Edit PasswdRecord)) (edits : List (Edit ShadowRecord)) (pair : Pair)
+    (files : Files)
+    → pair.main_tab ≡ Passwd
+    → pair.hashes_tab ≡ Shadow
+    → pair.main.now ≡ files.passwd
+    → pair.hashes.now ≡ files.shadow
+    → Converts passwd_format shadow_format main_edits edits pair
+    (record no_edits { passwd = main_edits; shadow = edits }) files
+users-convert main_edits edits pair files main_tab hashes_tab main hashes =
+    rw (main_tab, hashes_tab, main, hashes) (record {
+      of_files = record { main = refl; hashes = refl };
+      main = refl;
+      hashes = refl;
+      others = rw (
+        unsorted files (λ f. f.group),
+        unsorted files (λ f. f.gshadow),
+        unsorted files (λ f. f.subuid),
+        unsorted files (λ f. f.subgid),
+      ) refl;
+      multiple = rw (
+        none-multiple group_format (group_records files),
+        none-multiple gshadow_format (gshadow_records files),
+      ) (first-of-two (multiple_in Passwd passwd_format main_edits (passwd_records files))
+          (multiple_in Shadow shadow_format edits (shadow_records files)));
+    })
+
+-- and those of groups alone groups
+pub groups-convert :
+    (main_edits : List (Edit GroupRecord)) (edits : List (Edit GshadowRecord)) (pair : Pair)
+    (files : Files)
+    → pair.main_tab ≡ Group
+    → pair.hashes_tab ≡ Gshadow
+    → pair.main.now ≡ files.group
+    → pair.hashes.now ≡ files.gshadow
+    → Converts group_format gshadow_format main_edits edits pair
+    (record no_edits { group = main_edits; gshadow = edits }) files
+groups-convert main_edits edits pair files main_tab hashes_tab main hashes =
+    rw (main_tab, hashes_tab, main, hashes) (record {
+      of_files = record { main = refl; hashes = refl };
+      main = refl;
+      hashes = refl;
+      others = rw (
+        unsorted files (λ f. f.passwd),
+        unsorted files (λ f. f.shadow),
+        unsorted files (λ f. f.subuid),
+        unsorted files (λ f. f.subgid),
+      ) refl;
+      multiple = rw (
+        none-multiple passwd_format (passwd_records files),
+        none-multiple shadow_format (shadow_records files),
+      ) refl;
+    })

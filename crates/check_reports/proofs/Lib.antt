@@ -9,3 +9,4 @@ pub mod ReportLemmas
 pub mod SortLemmas
 pub mod KeyedLines
 pub mod SortedOnce
+pub mod ChangeLemmas

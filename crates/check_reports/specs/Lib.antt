@@ -5,3 +5,6 @@ pub mod Hashes
 pub mod Known
 pub mod Reported
 pub mod Sorted
+pub mod Secrets
+pub mod LineChanges
+pub mod Converted

@@ -28,8 +28,8 @@ pub(crate) fn told(alloc: Global, status: u8, out: Bytes) -> Decision
     Decision::Same(output(alloc, status, out))
 }
 
-// The decision of a tool that prints nothing, by the tables that differ.
-fn changed(alloc: Global, tables: NewTables) -> Decision
+/// The decision of a tool that prints nothing, by the tables that differ.
+pub(crate) fn changed(alloc: Global, tables: NewTables) -> Decision
     ensures { (tool : Tool) (script : Script) (files : Files)
         → multiple_entries script files ≡ None
         → tables ≡ changed_tables (table_of files) (table_of (files_after script files))
@@ -61,8 +61,8 @@ pub(crate) fn sort_tables<M: TableRecord + Drop, H: TableRecord, K: SortKey<M>>(
     Ok(changed(alloc, tables))
 }
 
-// Adds the table in order where that differs from how it was. An absent one stays so.
-fn push_sorted(
+/// Adds the table in order where that differs from how it was. An absent one stays so.
+pub(crate) fn push_sorted(
     changed: &mut NewTables,
     table: Tab,
     old: Option<&Bytes>,

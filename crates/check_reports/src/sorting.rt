@@ -3,6 +3,7 @@ ghost use Rattle.std.specs.Prelude.{◌≡◌, ◌+◌, ◌^◌, ◌<◌, ◌≤
 ghost use Rattle.acct_text.specs.Lines.{Line, file_bytes, line_bytes, lines_of};
 ghost use Rattle.account_model.specs.Edits.{Arrange, edited, in_places, keyed_text, keyed_texts, sorted_by_key};
 ghost use Rattle.account_model.specs.Tables.{table_after, table_records};
+ghost use Rattle.acct_tables.specs.NameIndex.{are_several, told};
 ghost use Rattle.acct_tables.specs.SeenLines.{seen_line};
 ghost use Rattle.check_reports.specs.Sorted.{IsOrderOf, kept_place, place_in, seen_keyed};
 ghost use Rattle.std.specs.Option.{option_copied};
@@ -60,8 +61,11 @@ pub(crate) struct ByPlace<'a> {
 }
 
 impl<'a> ByPlace<'a> {
-    // The order of the records of a file; an absent one has none.
-    fn of<M: TableRecord + Drop>(alloc: Global, main: &'a Option<Bytes>) -> Result<Self, AllocError>
+    /// The order of the records of a file; an absent one has none.
+    pub(crate) fn of<M: TableRecord + Drop>(
+        alloc: Global,
+        main: &'a Option<Bytes>,
+    ) -> Result<Self, AllocError>
         ensures { IfOk result (IsOrderOf M.format (table_records M.format main.now)) }
     {
         let mut names = NameIndex::new(alloc);
@@ -76,8 +80,15 @@ impl<'a> ByPlace<'a> {
         Ok(ByPlace { names, count })
     }
 
-    // The place of the first record of the name; where none has it, how many records there are.
-    fn place(&self, name: &[u8]) -> usize
+    /// Whether several records have the name.
+    pub(crate) fn has_several(&self, name: &[u8]) -> bool
+        ensures { result ≡ are_several (told self.now.names name.now) }
+    {
+        self.names.has_several(name)
+    }
+
+    /// The place of the first record of the name; where none has it, how many records there are.
+    pub(crate) fn place(&self, name: &[u8]) -> usize
         ensures { result ≡ kept_place self.now name.now }
     {
         match self.names.get(name) {
