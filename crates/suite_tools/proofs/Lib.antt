@@ -1,2 +1,3 @@
 pub mod CarryLemmas
+pub mod DecideLemmas
 pub mod LinesLemmas

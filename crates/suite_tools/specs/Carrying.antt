@@ -1,42 +1,64 @@
--- What a tool that is carried out has to answer, and to do with the tables ("EXIT VALUES" of each page;
--- the actions are those of account_model/specs/Change).
-use Rattle.std.specs.Prelude.{ℕ, Bool, true, false, List, Result}
+-- What a tool has to answer, and a command to do with the tables ("EXIT VALUES" of each page; the actions
+-- are those of account_model/specs/Change).
+use Rattle.std.specs.Prelude.{◌≡◌, ⊤, ℕ, false, List, Some, Result, Ok, Err}
 use Rattle.acct_text.specs.declared.files.Files.{Files}
-use Rattle.account_model.specs.Action.{outcome_of}
+use Rattle.account_model.specs.Action.{Action, outcome_of}
 use Rattle.account_model.specs.Change.{action_of}
 use Rattle.account_model.specs.declared.tool.Tool.{Tool}
-use Rattle.account_model.specs.declared.tool.Tool.TheVariants.{Pwck, Grpck, Getsubids}
+use Rattle.account_model.specs.declared.tool.Tool.TheVariants.{Batch}
 use Rattle.account_model.specs.Request.{Request}
 use Rattle.account_model.specs.Settings.{Setting}
+use Rattle.account_model.specs.Text.{first_some}
+use Rattle.account_model.specs.Words.{is_batch, is_for_lines}
+use Rattle.tool_answers.specs.Decisions.{Decides}
+use Rattle.tool_answers.specs.declared.decision.Decision.{Decision}
 use Rattle.tool_answers.specs.declared.decision.Output.{Output}
 use Rattle.tool_answers.specs.declared.tool_fault.ToolFault.{ToolFault}
+use Rattle.tool_answers.specs.declared.tool_fault.ToolFault.TheVariants.{Refused, Memory}
 use Rattle.login_defs.specs.declared.defs.Defs.{Defs}
 use Rattle.login_defs.specs.Held.{HasSettings}
-use Rattle.table_edits.specs.Acting.{ActsBy, IsReportOf, IsScriptOf}
+use Rattle.table_edits.specs.Acting.{IsReportOf, IsScriptOf}
 use Rattle.table_edits.specs.Deciding.{IsCarriedOut}
 use Rattle.table_edits.specs.declared.report.Report.{Report}
 use Rattle.table_edits.specs.declared.script.Script.{Script}
+use Rattle.suite_tools.specs.declared.answer.Answered.{Answered}
+use Rattle.suite_tools.specs.declared.answer.Answered.TheVariants.{Edits, Decides as DecidesAlone, Lines}
 
--- whether the tool looks through whole tables, and so decides by itself; the others have a script
-abbrev pub looks_through : Tool → Bool
-looks_through Pwck = true
-looks_through Grpck = true
-looks_through Getsubids = true
-looks_through tool = false
+-- ---- The tool
 
--- the tool answers so on this day, whichever settings the values are those of
-abbrev pub ActsUnder : Defs → ℕ → Request → List ℕ → Files → Result Script ToolFault → Type 0
-ActsUnder defs day request input files script =
-    (settings : List Setting) → HasSettings defs settings
-    → ActsBy (action_of request input day files settings) script
+-- the script and the report are of this action, of which no refusal is there
+abbrev pub IsOfAction : Script → Report → Action → Type 0
+IsOfAction script report action = IsScriptOf action script × IsReportOf action report
 
--- where it answers with the script, it reports this, whichever settings the values are those of, and
--- whatever its input and the day
-abbrev pub ReportsUnder : Defs → Request → Files → Script → Report → Type 0
-ReportsUnder defs request files script report =
-    (settings : List Setting) → HasSettings defs settings → (input : List ℕ) (day : ℕ)
-    → IsScriptOf (action_of request input day files settings) script
-    → IsReportOf (action_of request input day files settings) report
+-- on this day a tool that is no batch is about to make this of the tables, whichever settings the values
+-- are those of
+abbrev pub ActsUnder : Defs → ℕ → Request → List ℕ → Files → (Action → Type 0) → Type 0
+ActsUnder defs day request input tables Acts = (is_batch request.tool ≡ false)
+    × ((settings : List Setting) → HasSettings defs settings
+    → Acts (action_of request input day tables settings))
+
+-- The tool answers so on these tables: with the script of its action and its report, or with its first
+-- refusal. One that looks through whole tables decides on these files, and a batch leaves it to its
+-- lines; no line asks for these. Want of memory may come anywhere.
+abbrev pub AnswersUnder :
+    Defs → ℕ → Request → List ℕ → Files → Files → Result Answered ToolFault → Type 0
+AnswersUnder defs day request input files tables (Ok (Edits script report)) =
+    ActsUnder defs day request input tables (IsOfAction script report)
+AnswersUnder defs day request input files tables (Ok (DecidesAlone decision)) =
+    (is_for_lines request.tool ≡ false) × ActsUnder defs day request input files
+    (λ action. Decides request.tool files (outcome_of action files) decision)
+AnswersUnder defs day request input files tables (Ok Lines) = request.tool ≡ Batch
+AnswersUnder defs day request input files tables (Err (Refused refusal)) =
+    ActsUnder defs day request input tables (λ action. first_some action.refusals ≡ Some refusal)
+AnswersUnder defs day request input files tables (Err Memory) = ⊤
+
+-- ---- The tables
+
+-- the script of an action of the tool, which reports this, decides so on the files
+abbrev pub EditsDecide : Tool → Files → Script → Report → Decision → Type 0
+EditsDecide tool files script report decision = (action : Action)
+    → IsOfAction script report action
+    → Decides tool files (outcome_of action files) decision
 
 -- the tool carries out the request on these files, whichever settings the values are those of
 abbrev pub CarriesUnder :

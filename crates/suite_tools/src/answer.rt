@@ -1,72 +1,87 @@
-// What a tool answers that doesn't look through whole tables: the script of its edits, or why it
-// refuses; and what it reports beside them.
-ghost use Rattle.std.specs.Prelude.{◌≡◌, ◌≤◌, false, length, IfOk};
+// What a tool answers: the one place that goes from the tool to its code.
+ghost use Rattle.std.specs.Prelude.{◌≡◌, ◌≤◌, [], length};
 ghost use Rattle.acct_text.specs.Limits.{table_limit};
 ghost use Rattle.login_defs.specs.Held.{IsHeld};
-ghost use Rattle.suite_tools.specs.Carrying.{ActsUnder, ReportsUnder, looks_through};
+ghost use Rattle.suite_tools.specs.Carrying.{AnswersUnder};
 
 use account_model::Tool;
+use acct_text::Files;
 use aging_commands::chage::{chage, chage_report};
 use aging_commands::chpasswd::chpasswd;
+use check_reports::getsubids::getsubids;
+use check_reports::grpck::grpck;
+use check_reports::pwck::pwck;
 use command_values::Asked;
 use group_commands::gpasswd::gpasswd;
 use group_commands::groupadd::groupadd;
 use group_commands::groupdel::groupdel;
 use group_commands::groupmod::groupmod;
 use login_defs::Defs;
-use std::alloc::{AllocError, Global};
+use std::alloc::Global;
 use table_edits::{Report, Script, Tables};
-use tool_answers::ToolFault;
+use tool_answers::{Decision, ToolFault};
 use user_changes::usermod;
 use user_creation::{useradd, useradd_report};
 use user_removal::{userdel, userdel_report};
 
-/// The script of the tool's edits, by its words, the input and the tables, or its first refusal.
-pub(crate) fn script_of(
+/// What a tool answers that doesn't refuse.
+#[derive(Drop)]
+pub(crate) enum Answered {
+    /// It makes the edits of this script, and reports this.
+    Edits(Script, Report),
+    /// It looks through whole tables, and decides this on them.
+    Decides(Decision),
+    /// A batch: its lines answer, one after another.
+    Lines,
+}
+
+/// What the tool answers by its words, the input, the settings and the day, in days since 1970-01-01: on
+/// these tables, or on these files where it looks through them.
+///
+/// At `Refused` it refuses, for its first cause; one that looks through whole tables decides that too.
+pub(crate) fn answer_of(
     alloc: Global,
     asked: &Asked,
     input: &[u8],
+    files: &Files,
     tables: &Tables,
     defs: &Defs,
     day: u32,
-) -> Result<Script, ToolFault>
+) -> Result<Answered, ToolFault>
     requires small { length input.now ≤ table_limit }
     requires held { IsHeld defs.now }
-    requires scripted { looks_through asked.now.tool ≡ false }
-    ensures { ActsUnder defs.now day asked.now input.now tables.now result }
+    ensures { AnswersUnder defs.now day asked.now input.now files.now tables.now result }
 {
     match asked.tool() {
-        Tool::Useradd => useradd(alloc, asked, tables, defs, day),
-        Tool::Usermod => usermod(alloc, asked, tables, day),
-        Tool::Userdel => userdel(alloc, asked, tables, defs),
-        Tool::Groupadd => groupadd(alloc, asked, tables, defs),
-        Tool::Groupmod => groupmod(alloc, asked, tables),
-        Tool::Groupdel => groupdel(alloc, asked, tables),
-        Tool::Gpasswd => gpasswd(alloc, asked, tables),
-        Tool::Chage => chage(alloc, asked, tables),
-        Tool::Chpasswd => chpasswd(alloc, input, tables, day),
-        // A batch does nothing by itself: its lines are carried out one by one. The other three don't
-        // come here.
-        Tool::Batch | Tool::Pwck | Tool::Grpck | Tool::Getsubids => Ok(Script::new(alloc)),
+        Tool::Useradd => {
+            let script = useradd(alloc, asked, tables, defs, day)?;
+            let report = useradd_report(alloc, asked, tables, &script)?;
+            Ok(Answered::Edits(script, report))
+        }
+        Tool::Userdel => {
+            let script = userdel(alloc, asked, tables, defs)?;
+            Ok(Answered::Edits(script, userdel_report(alloc, asked, tables, defs)?))
+        }
+        Tool::Chage => {
+            let script = chage(alloc, asked, tables)?;
+            Ok(Answered::Edits(script, chage_report(alloc, asked, tables)?))
+        }
+        Tool::Usermod => Ok(quietly(alloc, usermod(alloc, asked, tables, day)?)),
+        Tool::Groupadd => Ok(quietly(alloc, groupadd(alloc, asked, tables, defs)?)),
+        Tool::Groupmod => Ok(quietly(alloc, groupmod(alloc, asked, tables)?)),
+        Tool::Groupdel => Ok(quietly(alloc, groupdel(alloc, asked, tables)?)),
+        Tool::Gpasswd => Ok(quietly(alloc, gpasswd(alloc, asked, tables)?)),
+        Tool::Chpasswd => Ok(quietly(alloc, chpasswd(alloc, input, tables, day)?)),
+        Tool::Pwck => Ok(Answered::Decides(pwck(alloc, asked, files, day)?)),
+        Tool::Grpck => Ok(Answered::Decides(grpck(alloc, asked, files)?)),
+        Tool::Getsubids => Ok(Answered::Decides(getsubids(alloc, asked, files)?)),
+        Tool::Batch => Ok(Answered::Lines),
     }
 }
 
-/// What the tool reports where it answers with the script: useradd and userdel their notices, chage
-/// what `-l` asks for, and the others nothing.
-pub(crate) fn report_of(
-    alloc: Global,
-    asked: &Asked,
-    tables: &Tables,
-    defs: &Defs,
-    script: &Script,
-) -> Result<Report, AllocError>
-    requires { looks_through asked.now.tool ≡ false }
-    ensures { IfOk result (ReportsUnder defs.now asked.now tables.now script.now) }
+// What a tool answers that reports nothing beside its script.
+fn quietly(alloc: Global, script: Script) -> Answered
+    ensures { result ≡ Answered.Edits script (record { status = 0; out = []; notices = [] }) }
 {
-    match asked.tool() {
-        Tool::Useradd => useradd_report(alloc, asked, tables, script),
-        Tool::Userdel => userdel_report(alloc, asked, tables, defs),
-        Tool::Chage => chage_report(alloc, asked, tables),
-        _ => Ok(Report::silent(alloc)),
-    }
+    Answered::Edits(script, Report::silent(alloc))
 }

@@ -1,12 +1,14 @@
-// What a command or a line of a batch does with the tables.
-ghost use Rattle.std.specs.Prelude.{◌≡◌, ◌≤◌, false, length};
-ghost use Rattle.acct_text.specs.Limits.{last_day, table_limit};
+// What a line of a batch does with the tables.
+ghost use Rattle.std.specs.Prelude.{◌≡◌, ◌≤◌, [], true};
+ghost use Rattle.acct_text.specs.Limits.{last_day};
+ghost use Rattle.account_model.specs.Words.{is_for_lines};
 ghost use Rattle.login_defs.specs.Held.{IsHeld};
-ghost use Rattle.suite_tools.specs.Carrying.{CarriesUnder, looks_through};
+ghost use Rattle.suite_tools.specs.Carrying.{CarriesUnder};
 
 use crate::Output;
-use crate::answer::{report_of, script_of};
+use crate::answer::{Answered, answer_of};
 use account_model::tools_are_written;
+use acct_text::Files;
 use carried_tables::CarriedTables;
 use command_values::Asked;
 use login_defs::Defs;
@@ -14,27 +16,29 @@ use std::alloc::Global;
 use table_edits::Tables;
 use tool_answers::ToolFault;
 
-/// Carries out what is asked for on the tables, by the input, the settings and the day, in days
-/// since 1970-01-01, and gives what the tool prints.
+/// Carries out what a line asks for on the tables, by the settings and the day, in days since
+/// 1970-01-01, and gives what its tool prints. The files are those of before the batch.
 ///
 /// At `Refused` the tool refuses, and the tables are as before. At `Memory` a part may be carried out.
 pub(crate) fn carry_out(
     alloc: Global,
     asked: &Asked,
-    input: &[u8],
+    files: &Files,
     tables: &mut CarriedTables,
     defs: &Defs,
     day: u32,
 ) -> Result<Output, ToolFault>
-    requires small { length input.now ≤ table_limit }
     requires held { IsHeld defs.now }
     requires in_time { day ≤ last_day }
-    requires scripted { looks_through asked.now.tool ≡ false }
-    ensures { CarriesUnder defs.now day asked.now input.now tables.old tables.new result }
+    requires for_lines { is_for_lines asked.now.tool ≡ true }
+    ensures { CarriesUnder defs.now day asked.now [] tables.old tables.new result }
 {
-    let seen = Tables::of(tables);
-    let script = script_of(alloc, asked, input, &seen, defs, day)?;
-    let report = report_of(alloc, asked, &seen, defs, &script)?;
-    tools_are_written();
-    table_edits::carry_out(alloc, asked.tool(), tables, &script, report)
+    match answer_of(alloc, asked, b"", files, &Tables::of(tables), defs, day)? {
+        Answered::Edits(script, report) => {
+            tools_are_written();
+            table_edits::carry_out(alloc, asked.tool(), tables, &script, report)
+        }
+        // No line names a batch, or a tool that looks through whole tables.
+        Answered::Decides(_) | Answered::Lines => unreachable!(),
+    }
 }

@@ -1,14 +1,42 @@
 // The change that a command decides once it is carried out: the tables that differ from the files.
 ghost use Rattle.std.specs.Prelude.{◌≡◌, IfOk};
+ghost use Rattle.account_model.specs.Action.{Action};
+ghost use Rattle.account_model.specs.WrittenScript.{IsWrittenScript};
 ghost use Rattle.acct_text.specs.ChangedTables.{changed_tables};
 ghost use Rattle.acct_text.specs.Files.{table_of};
 ghost use Rattle.tool_answers.specs.Decisions.{decision_by};
 ghost use Rattle.carried_tables.specs.Changes.{StandWhere};
+ghost use Rattle.table_edits.specs.SeenScript.{seen_script};
+ghost use Rattle.suite_tools.specs.Carrying.{EditsDecide, IsOfAction};
 
+use account_model::Tool;
 use acct_text::Files;
 use carried_tables::CarriedTables;
 use std::alloc::{AllocError, Global};
-use tool_answers::{Decision, Output, decision_by};
+use table_edits::{Report, Script, carry_out};
+use tool_answers::{Decision, Output, ToolFault, decision_by, refuse};
+
+/// What a command decides by the edits of its tool, which reports this: they are carried out on the
+/// tables, which are the files.
+pub(crate) fn decide_edits(
+    alloc: Global,
+    tool: Tool,
+    files: &Files,
+    mut tables: CarriedTables,
+    script: &Script,
+    report: Report,
+) -> Result<Decision, AllocError>
+    requires are { tables ≡ files.now }
+    requires written { IsWrittenScript (seen_script script.now) }
+    requires of_action { (action : Action) × IsOfAction script.now report action }
+    ensures { IfOk result (EditsDecide tool files.now script.now report) }
+{
+    match carry_out(alloc, tool, &mut tables, script, report) {
+        Ok(output) => decide_change(alloc, files, &mut tables, output),
+        Err(ToolFault::Refused(refusal)) => refuse(alloc, tool, refusal),
+        Err(ToolFault::Memory) => Err(AllocError),
+    }
+}
 
 /// What is decided where this is printed: the tables that differ from the first files get their
 /// bytes, which are taken out of those that were carried.

@@ -1,11 +1,10 @@
 //! What a command decides, a batch of commands too: all tools behind one call, below the session.
 //!
-//! `decide` picks a batch, a report or another tool (`dispatch`). A report decides by itself, from whole
-//! tables. Any other command is carried out (`carry`) on the six tables, with the indices that pay
-//! (`opening`), and those that differ then are its change (`change`). A batch does so line by line
-//! (`lines`), each on what those before it have written (`written`). What is carried out is the script
-//! of edits that the tool makes from request, tables, settings and day, beside its report: `answer`
-//! asks the tool for both.
+//! `decide` opens the six tables with the indices that pay (`opening`), and asks the tool (`answer`, the
+//! one match over all tools). A tool answers with the script of its edits and its report, or refuses.
+//! The script is carried out on the tables, and those that differ then are the change (`change`). A
+//! report decides by itself, from whole tables. A batch is carried out line by line (`lines`), each of
+//! which asks its tool and edits (`carry`) what those before it have written (`written`).
 #![tactic(auto)]
 
 mod answer;

@@ -1,7 +1,6 @@
 // The tables that commands are carried out on, with the indices that pay.
-ghost use Rattle.std.specs.Prelude.{◌≡◌, IfOk};
+ghost use Rattle.std.specs.Prelude.{◌≡◌, IfOk, OnOk};
 
-use account_model::Tool;
 use acct_text::Files;
 use carried_tables::CarriedTables;
 use command_values::Asked;
@@ -10,10 +9,12 @@ use std::alloc::{AllocError, Global};
 // From so many lines on a batch has an index of each table.
 const MANY_LINES: usize = 8;
 
-// From so many names on a command has an index of the tables where they are looked up.
+// From so many names on, or lines of an input, a command has an index of the tables where they are
+// looked up.
 const MANY_NAMES: usize = 64;
 
-/// The tables of the files, for a command with this input.
+/// The tables of the files, for a command with this input: with an index of those where it looks up many
+/// names.
 pub(crate) fn tables_for<'a>(
     alloc: Global,
     asked: &Asked,
@@ -23,30 +24,27 @@ pub(crate) fn tables_for<'a>(
     ensures { IfOk result (λ tables. tables ≡ files.now) }
 {
     let mut tables = CarriedTables::of(files);
-    match asked.tool() {
-        Tool::Chpasswd if has_many(input, b'\n', MANY_NAMES) => tables.index_users(alloc)?,
-        Tool::Gpasswd if lists_many(asked, b'A') || lists_many(asked, b'M') => {
-            tables.index_users(alloc)?
-        }
-        Tool::Useradd | Tool::Usermod if lists_many(asked, b'G') => tables.index_groups(alloc)?,
-        _ => {}
+    if lists_many(asked, b'A') || lists_many(asked, b'M') || has_many(input, b'\n', MANY_NAMES) {
+        tables.index_users(alloc)?;
+    }
+    if lists_many(asked, b'G') {
+        tables.index_groups(alloc)?;
     }
     Ok(tables)
 }
 
-/// The tables of the files, for the lines of a batch.
-pub(crate) fn tables_for_lines<'a>(
+/// Makes an index of each table for the lines of a batch, where they are many.
+pub(crate) fn index_for_lines(
     alloc: Global,
     input: &[u8],
-    files: &'a Files,
-) -> Result<CarriedTables<'a>, AllocError>
-    ensures { IfOk result (λ tables. tables ≡ files.now) }
+    tables: &mut CarriedTables,
+) -> Result<(), AllocError>
+    ensures { OnOk result (tables.new ≡ tables.old) }
 {
-    let mut tables = CarriedTables::of(files);
     if has_many(input, b'\n', MANY_LINES) {
         tables.index(alloc)?;
     }
-    Ok(tables)
+    Ok(())
 }
 
 // Whether the option lists many names.

@@ -61,12 +61,14 @@ impl<'a> Written<'a> {
     /// refuses.
     ///
     /// A line that is done already is passed by, where that is wanted. Where it refuses all stays as it
-    /// was written; at `AllocError` a part of the line may be written.
+    /// was written; at `AllocError` a part of the line may be written. The files are those of before the
+    /// batch.
     pub(crate) fn carry_out(
         &mut self,
         alloc: Global,
         ensuring: bool,
         line: &LineRequest,
+        files: &Files,
         defs: &Defs,
         day: u32,
     ) -> Result<Option<Refusal>, AllocError>
@@ -77,14 +79,8 @@ impl<'a> Written<'a> {
             → IsWrittenBehind line.now.request.tool self.old self.new refusal
             (line_outcome ensuring line.now.request day settings self.old.files)) }
     {
-        match carry_out(
-            alloc,
-            &Asked::of(&line.parsed),
-            b"",
-            &mut self.tables,
-            defs,
-            day,
-        ) {
+        let asked = &Asked::of(&line.parsed);
+        match carry_out(alloc, asked, files, &mut self.tables, defs, day) {
             Ok(output) => {
                 self.print(&output)?;
                 Ok(None)
