@@ -1,18 +1,15 @@
 -- What a command answers on given files by what it decides (account_model/specs/Answer).
 use Rattle.std.specs.Prelude.{◌≡◌, ℕ, List, [], find, Option, Some, None, option_map, unwrap_or}
 use Rattle.acct_text.specs.declared.Tab.{Tab}
-use Rattle.acct_text.specs.declared.files.Files.{Files}
 use Rattle.acct_text.specs.declared.new_tables.NewTable.{NewTable}
 use Rattle.acct_text.specs.Bytes.{Bytes}
 use Rattle.acct_outside.specs.declared.Name.TheVariants.{Table}
 use Rattle.account_model.specs.Answer.{passes_limit}
-use Rattle.login_defs.specs.declared.defs.Defs.{Defs}
 use Rattle.login_defs.specs.declared.defs.DefsFault.{DefsFault}
 use Rattle.login_defs.specs.declared.defs.DefsFault.TheVariants.{BadNumber}
 use Rattle.tool_answers.specs.declared.decision.Output.{Output}
 use Rattle.tool_answers.specs.declared.decision.Decision.{Decision}
 use Rattle.tool_answers.specs.declared.decision.Decision.TheVariants.{Change, Same, Refuse, RefuseLine}
-use Rattle.suite_tools.specs.Deciding.{CommandDecides}
 use Rattle.suite_answers.specs.declared.cause.Which.TheVariants.{File}
 use Rattle.suite_answers.specs.declared.cause.Cause.{Cause}
 use Rattle.suite_answers.specs.declared.cause.Cause.TheVariants.{Changed, Same as IsSame, Refused, RefusedLine, TooLarge}
@@ -29,11 +26,6 @@ settings_text defs = unwrap_or defs []
 -- the bad line of a settings file, counted from 1
 abbrev pub bad_line : DefsFault → ℕ
 bad_line (BadNumber line) = line
-
--- the command decides so on the files, whichever settings these are
-abbrev pub QuestionDecides : Question → Defs → Files → Decision → Type 0
-QuestionDecides asked defs files decision =
-    CommandDecides defs asked.command.day asked.request asked.command.input files decision
 
 -- the first of new tables that passes the limit
 abbrev pub large_table : List NewTable → Option Tab

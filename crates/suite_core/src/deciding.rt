@@ -9,7 +9,7 @@ ghost use Rattle.account_model.specs.Settings.{settings_of};
 ghost use Rattle.login_defs.specs.Faults.{file_fault};
 ghost use Rattle.login_defs.specs.Held.{HasSettings, IsHeld};
 ghost use Rattle.suite_session.specs.Answers.{given_for};
-ghost use Rattle.suite_core.specs.Deciding.{AnswersDecision, QuestionDecides, bad_line, large_table, settings_text, with_output};
+ghost use Rattle.suite_core.specs.Deciding.{AnswersDecision, bad_line, large_table, settings_text, with_output};
 
 use acct_outside::Name;
 use acct_text::{Bytes, Files, NewTables, TABLE_LIMIT, Tab};
@@ -17,7 +17,7 @@ use login_defs::{Defs, DefsFault};
 use std::alloc::{AllocError, Global};
 use suite_answers::{Answer, Cause, Outcome, Which};
 use suite_session::{Decided, Question, Tools};
-use suite_tools::{Decision, Output};
+use suite_tools::{Decision, Output, decide};
 
 /// The tools of the suite, as one.
 #[derive(Drop)]
@@ -32,7 +32,10 @@ impl Tools for Suite {
     ) -> Result<Decided, AllocError> {
         match settings_in(defs) {
             Ok(settings) => {
-                let decision = decide_command(alloc, asked, files, &settings)?;
+                let parsed = asked.parsed();
+                let input = asked.input();
+                let day = asked.day();
+                let decision = decide(alloc, parsed, input, files, &settings, day)?;
                 answer_to(alloc, asked, decision)
             }
             Err(fault) => bad_setting(alloc, asked, fault),
@@ -60,20 +63,6 @@ fn settings_in(defs: Option<&Bytes>) -> Result<Defs, DefsFault>
         Some(text) => Defs::read(text.as_slice()),
         None => Ok(Defs::absent()),
     }
-}
-
-// What the command decides on the files, by the settings.
-fn decide_command(
-    alloc: Global,
-    asked: &Question,
-    files: &Files,
-    settings: &Defs,
-) -> Result<Decision, AllocError>
-    requires { IsHeld settings.now }
-    ensures { IfOk result (QuestionDecides asked.now settings.now files.now) }
-{
-    let day = asked.day();
-    suite_tools::decide(alloc, asked.parsed(), asked.input(), files, settings, day)
 }
 
 // The answer to what the command decides.

@@ -1,8 +1,10 @@
-use Rattle.std.proofs.Common.{sym, ap, subst, ◌∙◌, ℕ, Option}
+use Rattle.std.proofs.Common.{◌≡◌, sym, ap, subst, ◌∙◌, ℕ, List, Option}
 use Rattle.std.specs.Prelude.{option_map}
 use Rattle.std.specs.Option.{option_copied}
 use Rattle.account_model.specs.Answer.{BadSettingAt}
+use Rattle.account_model.specs.Request.{Request}
 use Rattle.account_model.specs.Settings.{settings_of}
+use Rattle.suite_tools.specs.Deciding.{command_decision}
 use Rattle.suite_session.specs.declared.tools.Decided.{Decided}
 use Rattle.suite_session.specs.Loading.{DecidesOn}
 use Rattle.suite_core.specs.Deciding.{bad_line, settings_text}
@@ -18,10 +20,18 @@ returns-in_ok-decision-in-Ok c =
     let sound = loaded-problem files c.requires.passwd c.requires.group c.requires.small defs
     ∙ (settings-sound defs c.requires.small_defs
     ∙ ap (λ (line : Option ℕ). option_map BadSettingAt line) good) in
+    let asked = c.args.asked.now in
+    -- the request is that of the command, with its whole input, and the day is its day
+    let told = λ (request : Request) (input : List ℕ) (day : ℕ). c.in_ok-decision-in-Ok.decision
+    ≡ command_decision request input day files (settings_of text) in
     if-ok (λ decided shown. decides-on c.args.asked.now files defs sound
     c.requires.small
     c.in_ok-decision-in-Ok.decision
-    (c.in_ok-decision-in-Ok.ensures (settings_of text) c.in-Ok.ensures.settings) decided shown)
+    (subst (λ (day : ℕ). told asked.request asked.command.input day) c.day-day.ensures.value
+    (subst (λ (input : List ℕ). told asked.request input c.day-day.result) c.input-input.ensures.value
+    (subst (λ (request : Request). told request c.input-input.result.now c.day-day.result)
+    c.parsed-parsed.ensures
+    (c.in_ok-decision-in-Ok.ensures (settings_of text) c.in-Ok.ensures.settings)))) decided shown)
     c.answer_to.result c.answer_to.ensures
 
 pub returns-in-Err : goal.returns-in-Err
