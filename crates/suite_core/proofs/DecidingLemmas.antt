@@ -19,7 +19,7 @@ use Rattle.acct_text.specs.Tables.{all_tables}
 use Rattle.account_model.specs.declared.refusal.Refusal.{Refusal}
 use Rattle.account_model.specs.declared.tool.Tool.{Tool}
 use Rattle.account_model.specs.Text.{first_some}
-use Rattle.account_model.specs.Action.{Action, Made, outcome_of}
+use Rattle.account_model.specs.Action.{Made, outcome_of}
 use Rattle.account_model.specs.Batch.{LineRefusal, Written, batch, ensures, written_by}
 use Rattle.account_model.proofs.DeedLaws.{batch-stands, changes-is}
 use Rattle.account_model.specs.Change.{action_of}

@@ -29,7 +29,7 @@ refused :
     (action : Action) (files : Files) (refusal : Refusal)
     → first_some action.refusals ≡ Some refusal
     → outcome_of action files ≡ Err refusal
-refused action files refusal is = rw is
+refused action files refusal is = rw (is, outcome_of)
 
 module _ (defs : Defs) (day : ℕ) (request : Request) (input : List ℕ) (files : Files) where
   -- what is answered on tables that are the files is answered on these

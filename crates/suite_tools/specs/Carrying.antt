@@ -1,6 +1,6 @@
 -- What a tool has to answer, and a command to do with the tables ("EXIT VALUES" of each page; the actions
 -- are those of account_model/specs/Change).
-use Rattle.std.specs.Prelude.{◌≡◌, ⊤, ℕ, Bool, false, List, Some, Result, Ok, Err}
+use Rattle.std.specs.Prelude.{◌≡◌, ⊤, ℕ, false, List, Some, Result, Ok, Err}
 use Rattle.acct_text.specs.declared.files.Files.{Files}
 use Rattle.account_model.specs.Action.{Action, outcome_of}
 use Rattle.account_model.specs.Change.{action_of}
@@ -21,7 +21,6 @@ use Rattle.table_edits.specs.Acting.{IsReportOf, IsScriptOf}
 use Rattle.table_edits.specs.Deciding.{IsCarriedOut}
 use Rattle.table_edits.specs.declared.report.Report.{Report}
 use Rattle.table_edits.specs.declared.script.Script.{Script}
-use Rattle.suite_tools.specs.Deciding.{ToolDecides}
 use Rattle.suite_tools.specs.declared.answer.Answered.{Answered}
 use Rattle.suite_tools.specs.declared.answer.Answered.TheVariants.{Edits, Decides as DecidesAlone, Lines}
 

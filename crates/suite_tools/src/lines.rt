@@ -1,5 +1,5 @@
 // What a batch decides: line by line, each on what the lines before it have written.
-ghost use Rattle.std.specs.Prelude.{◌≤◌, length, IfOk};
+ghost use Rattle.std.specs.Prelude.{◌≡◌, ◌≤◌, length, IfOk};
 ghost use Rattle.acct_text.specs.Limits.{last_day, table_limit};
 ghost use Rattle.login_defs.specs.Held.{IsHeld};
 ghost use Rattle.suite_tools.specs.Deciding.{LinesDecideUnder};

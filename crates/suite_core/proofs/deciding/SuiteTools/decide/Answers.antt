@@ -28,9 +28,9 @@ returns-in_ok-decision-in-Ok c =
     c.requires.small
     c.in_ok-decision-in-Ok.decision
     (subst (λ (day : ℕ). told asked.request asked.command.input day) c.day-day.ensures.value
-    (subst (λ (input : List ℕ). told asked.request input c.day-day.result) c.input.ensures.value
-    (subst (λ (request : Request). told request c.input.result.now c.day-day.result)
-    c.parsed.ensures
+    (subst (λ (input : List ℕ). told asked.request input c.day-day.result) c.input-input.ensures.value
+    (subst (λ (request : Request). told request c.input-input.result.now c.day-day.result)
+    c.parsed-parsed.ensures
     (c.in_ok-decision-in-Ok.ensures (settings_of text) c.in-Ok.ensures.settings)))) decided shown)
     c.answer_to.result c.answer_to.ensures
 
