@@ -1,7 +1,7 @@
 -- Claim: what a change meets in a line is met among records (`met-by`, `found-more`), and names of which an order tells
 -- several are multiple (`several-order`). Way: by what the line reads as.
 use Rattle.std.proofs.Common.{◌≡◌, ◌∙◌, ℕ, ◌+◌, Bool, true, false, List, [], ◌∷◌, map, refl, sym, ap}
-use Rattle.std.specs.Prelude.{Option, Some, None, ◌&&◌, count_by, find, filter_map, nat_le, slice_get, is_none, is_some, option_map, if◌then◌else◌}
+use Rattle.std.specs.Prelude.{Option, Some, None, ◌&&◌, count_by, find, nat_le, slice_get, is_none, is_some, option_map, if◌then◌else◌}
 use Rattle.std.specs.List.{cons_option, position_from, position_or_len}
 use Rattle.std.proofs.lemmas.Option.{slice_get-map}
 use Rattle.std.proofs.lemmas.List.Folds.{find_at}
@@ -10,7 +10,7 @@ use Rattle.acct_text.specs.Lines.{Line}
 use Rattle.account_model.specs.declared.fault.LineFault.{LineFault}
 use Rattle.account_model.specs.Format.{Format, is_named, count_named, find_named, records_of}
 use Rattle.account_model.specs.Conversion.{shown, with_shown}
-use Rattle.account_model.specs.Edits.{Become, is_multiple}
+use Rattle.account_model.specs.Edits.{Become}
 use Rattle.acct_tables.specs.NameIndex.{are_several, has_name, records_at, told}
 use Rattle.acct_tables.proofs.NameIndexLemmas.{none-counts}
 use Rattle.check_reports.specs.declared.sorting.ByPlace.{ByPlace}

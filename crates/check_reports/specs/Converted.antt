@@ -1,6 +1,5 @@
 -- What it is to convert a table and that of its hashes (pwconv(8)).
 use Rattle.std.specs.Prelude.{◌≡◌, ℕ, List, [], ◌∷◌, Option}
-use Rattle.acct_text.specs.declared.Tab.{Tab}
 use Rattle.acct_text.specs.declared.files.Files.{Files}
 use Rattle.acct_text.specs.ChangedTables.{changed_among, changed_tables}
 use Rattle.acct_text.specs.Files.{table_of}
