@@ -2,4 +2,3 @@ pub mod Help
 pub mod HelpTexts
 pub mod Input
 pub mod OpenLine
-pub mod Program

@@ -8,23 +8,22 @@
 mod help;
 mod input;
 mod open_line;
-mod program;
 mod words;
 
 use acct_outside::{Sink, SinkFault};
-use acct_text::Word;
+use acct_text::{Bytes, Word};
 use help::{VERSION, text_of, text_of_suite};
 use input::named_file;
 use open_line::OpenLine;
-use program::{Ended, run_program};
 use real_folder::{RealClock, RealFolder, RealSink, RealSource, SystemError};
+use rehearsal::rehearse;
 use std::alloc::{AllocError, Global};
 use std::fs::File;
 use std::io::{ErrorKind, Read, Write};
 use std::process;
 use std::process::ExitCode;
 use std::rt::{Clock, Env, Files};
-use suite_core::{Cause, Outcome};
+use suite_core::{Cause, run_suite};
 use words::{Request, request_of, teller, words_of};
 
 /// The status where main itself found no memory.
@@ -40,7 +39,10 @@ fn main(rt: HostRuntime) -> ExitCode {
     let mut out = RealSink::new(rt.alloc(), rt.stdout(), "standard output");
     let mut err = OpenLine::new(RealSink::new(rt.alloc(), rt.stderr(), "standard error"));
     let status = match words_of(&rt) {
-        Ok(words) => answer(&rt, process::id(rt.process()), &words, &mut out, &mut err),
+        Ok(words) => {
+            let process = process::id(rt.process());
+            answer(&rt, process, &words, &mut out, &mut err).unwrap_or(NO_MEMORY)
+        }
         Err(e) if e.kind() == ErrorKind::OutOfMemory => NO_MEMORY,
         Err(_) => tell(&mut err, "accounts: word is not UTF-8\n", SYNTAX),
     };
@@ -53,12 +55,25 @@ fn answer<
     R: Files<File = File> + Input + Clock + Env + AllocGlobal + Clone + Drop,
     O: Write + Drop,
     E: Sink + Drop,
->(rt: &R, process: u32, words: &[Word], out: &mut RealSink<O>, err: &mut OpenLine<E>) -> u8 {
+>(
+    rt: &R,
+    process: u32,
+    words: &[Word],
+    out: &mut RealSink<O>,
+    err: &mut OpenLine<E>,
+) -> Result<u8, AllocError> {
     match request_of(words) {
-        Request::Help => tell(out, text_of_suite(), 0),
-        Request::ToolHelp(tool) => tell(out, text_of(tool), 0),
-        Request::Version => tell(out, VERSION, 0),
-        Request::Suite => run(rt, process, words, out, err).unwrap_or(NO_MEMORY),
+        Request::Help => Ok(tell(out, text_of_suite(), 0)),
+        Request::ToolHelp(tool) => Ok(tell(out, text_of(tool), 0)),
+        Request::Version => Ok(tell(out, VERSION, 0)),
+        Request::Rehearsal => Ok(run_rehearsal(rt.alloc(), words, out, err)),
+        Request::Suite => match named_file(rt.alloc(), words)? {
+            Some(file) => run_on_file(rt, process, words, &file, out, err),
+            None => {
+                let input = RealSource::new(rt.alloc(), rt.reader());
+                run(rt, process, words, input, out, err)
+            }
+        },
     }
 }
 
@@ -75,8 +90,22 @@ fn status_after(put: Result<(), SinkFault>, due: u8) -> u8 {
     }
 }
 
-// Runs the program on the input that its words name, and gives its status.
-fn run<
+// Rehearses, and gives the status. After a fault of the output it says why.
+fn run_rehearsal<O: Write + Drop, E: Sink + Drop>(
+    alloc: Global,
+    words: &[Word],
+    out: &mut RealSink<O>,
+    err: &mut OpenLine<E>,
+) -> u8 {
+    let status = rehearse(alloc, words, out, err);
+    if status == OUTPUT_FAULT {
+        tell_why(alloc, err, words, out.last_error());
+    }
+    status
+}
+
+// Runs a command of the suite on this file as its input, and gives its status.
+fn run_on_file<
     R: Files<File = File> + Input + Clock + Env + AllocGlobal + Clone + Drop,
     O: Write + Drop,
     E: Sink + Drop,
@@ -84,48 +113,42 @@ fn run<
     rt: &R,
     process: u32,
     words: &[Word],
+    file: &Bytes,
     out: &mut RealSink<O>,
     err: &mut OpenLine<E>,
 ) -> Result<u8, AllocError> {
-    let mut folder = RealFolder::new(rt.clone()?, process);
-    let Some(file) = named_file(rt.alloc(), words)? else {
-        let mut input = RealSource::new(rt.alloc(), rt.reader());
-        return run_on(rt, words, &mut folder, &mut input, out, err);
-    };
     // A word is UTF-8, as it came so.
     let path = str::from_utf8(file.as_slice()).unwrap_or("");
-    let mut input = RealSource::of(rt.alloc(), path, File::open(rt, path));
-    run_on(rt, words, &mut folder, &mut input, out, err)
+    let input = RealSource::of(rt.alloc(), path, File::open(rt, path));
+    run(rt, process, words, input, out, err)
 }
 
-// Runs the program on the real objects, and gives its status. After a fault it says why.
-fn run_on<
+// Runs a command of the suite on the real objects, and gives its status. After a fault it says why.
+fn run<
     R: Files<File = File> + Input + Clock + Env + AllocGlobal + Clone + Drop,
     I: Read + Drop,
     O: Write + Drop,
     E: Sink + Drop,
 >(
     rt: &R,
+    process: u32,
     words: &[Word],
-    folder: &mut RealFolder<R>,
-    input: &mut RealSource<'_, I>,
+    mut input: RealSource<'_, I>,
     out: &mut RealSink<O>,
     err: &mut OpenLine<E>,
 ) -> Result<u8, AllocError> {
+    let alloc = rt.alloc();
+    let mut folder = RealFolder::new(rt.clone()?, process);
     let mut clock = RealClock::new(rt.clone()?);
-    let ended = run_program(rt.alloc(), words, folder, input, out, err, &mut clock);
-    match &ended {
-        Ended::Suite(Outcome { cause, .. }) => match cause {
-            Cause::DiskFault(_) => tell_why(rt.alloc(), err, words, folder.last_error()),
-            Cause::InputFault => tell_why(rt.alloc(), err, words, input.last_error()),
-            Cause::OutputFault(_) => tell_why(rt.alloc(), err, words, out.last_error()),
-            Cause::ClockFault => tell_why(rt.alloc(), err, words, clock.last_error()),
-            _ => {}
-        },
-        Ended::Rehearsal(OUTPUT_FAULT) => tell_why(rt.alloc(), err, words, out.last_error()),
-        Ended::Rehearsal(_) => {}
+    let outcome = run_suite(alloc, words, &mut folder, &mut input, out, err, &mut clock);
+    match &outcome.cause {
+        Cause::DiskFault(_) => tell_why(alloc, err, words, folder.last_error()),
+        Cause::InputFault => tell_why(alloc, err, words, input.last_error()),
+        Cause::OutputFault(_) => tell_why(alloc, err, words, out.last_error()),
+        Cause::ClockFault => tell_why(alloc, err, words, clock.last_error()),
+        _ => {}
     }
-    Ok(ended.status())
+    Ok(outcome.status)
 }
 
 // Ends the line of the fault with its reason, where one is known and there is memory for it. Where no

@@ -1,9 +1,11 @@
 // The words after the program's name, and what main answers to them by itself.
 ghost use Rattle.std.specs.Prelude.{◌≡◌, ◌↔◌, [], ◌∷◌, Some, IsTrue, codes};
+ghost use Rattle.rehearsal.specs.Asked.{BeginsRehearsal};
 ghost use Rattle.suite_main.specs.Help.{AskAbout, AskForTools};
 
 use account_model::Tool;
 use acct_text::Word;
+use rehearsal::asks_for_rehearsal;
 use std::rt::Env;
 use std::{env, io};
 
@@ -16,6 +18,8 @@ pub(crate) enum Request {
     ToolHelp(Tool),
     /// main, with the version.
     Version,
+    /// The rehearsal.
+    Rehearsal,
     /// The suite, whatever the words are.
     Suite,
 }
@@ -31,11 +35,13 @@ pub(crate) fn words_of<R: Env + AllocGlobal>(rt: &R) -> io::Result<Vec<Word>> {
     Ok(words)
 }
 
-/// Who answers the words: main where they ask for a text and for nothing else, and else the suite.
+/// Who answers the words: main where they ask for a text and for nothing else, the rehearsal where
+/// word 0 is `rehearse`, and else the suite.
 pub(crate) fn request_of(words: &[Word]) -> Request
     ensures help { (result ≡ Request.Help) ↔ AskForTools words.now }
     ensures tool_help { (tool : Tool) → (result ≡ Request.ToolHelp tool) ↔ AskAbout words.now tool }
     ensures version { (result ≡ Request.Version) ↔ (words.now ≡ codes "--version" ∷ []) }
+    ensures rehearsal { (result ≡ Request.Rehearsal) ↔ BeginsRehearsal words.now }
 {
     if is_only(words, b"--version") {
         return Request::Version;
@@ -45,6 +51,7 @@ pub(crate) fn request_of(words: &[Word]) -> Request
     }
     match asked_about(words) {
         Some(tool) => Request::ToolHelp(tool),
+        None if asks_for_rehearsal(words) => Request::Rehearsal,
         None => Request::Suite,
     }
 }
