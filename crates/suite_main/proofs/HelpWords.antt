@@ -1,14 +1,31 @@
 -- Claim: where an option behind a word asks for help, the words ask about the tool that the word
--- names, and about no other (`asked-named`).
+-- names, and about no other (`asked-named`), and don't ask for a rehearsal (`no-rehearsal`).
 --
 -- Way: the word names a tool exactly where it is the tool's name, so the words are the name with
 -- that option exactly where the tool is the one that was found.
-use Rattle.std.proofs.Common.{◌≡◌, ◌⊎◌, ◌↔◌, ◌∙◌, ap, sym, inl, inr, List, [], ◌∷◌, Option, Some, codes}
+use Rattle.std.proofs.Common.{◌≡◌, ◌⊎◌, ◌↔◌, ◌∙◌, ap, sym, inl, inr, List, [], ◌∷◌, Option, Some, None, codes}
 use Rattle.account_model.specs.declared.tool.Tool.{Tool}
 use Rattle.account_model.specs.Words.{tool_name, tool_named}
 use Rattle.account_model.specs.Options.{Word}
 use Rattle.account_model.proofs.AsksLaws.{tool_of_its_name, name_of_its_tool}
+use Rattle.rehearsal.specs.Asked.{BeginsRehearsal}
 use Rattle.suite_main.specs.Help.{AskAbout}
+
+-- words that ask about a tool don't begin a rehearsal, as no tool has that name
+pub no-rehearsal :
+    (words : List Word) (tool : Tool)
+    → AskAbout words tool
+    → BeginsRehearsal words
+    → ⊥
+no-rehearsal words tool asks begins = elim asks [
+  | inl long ↦ named (codes "--help" ∷ []) long
+  | inr short ↦ named (codes "-h" ∷ []) short
+]
+  where
+    named : (rest : List Word) → words ≡ tool_name tool ∷ rest → ⊥
+    named rest is =
+        let same : tool_name tool ≡ codes "rehearse" = cc (is, begins.1) in
+        let none : Some tool ≡ None = sym (tool_of_its_name tool) ∙ ap tool_named same in cc
 
 module _ (words : List Word) (name : Word) (options : List Word)
     (cut : words ≡ name ∷ options)
