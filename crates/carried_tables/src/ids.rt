@@ -10,9 +10,8 @@ use acct_tables::Lines;
 use acct_text::Bytes;
 use id_choice::UsedIds;
 use line_edits::{GroupAct, GroupChange, PasswdAct, PasswdChange};
-use record_keys::KeyedRecord;
 use std::alloc::{AllocError, Global};
-use table::{RecordTest, text_of};
+use table::{KeyedRecord, RecordTest, text_of};
 
 /// What a change does with the IDs of the records of one name.
 #[derive(Clone, Copy)]

@@ -15,11 +15,11 @@ use Rattle.account_model.specs.RecordEdits.{IsWrittenEdit}
 use Rattle.account_model.specs.Written.{IsWritten}
 use Rattle.acct_tables.specs.TableLines.{text_is_named}
 use Rattle.line_edits.specs.Naming.{Leaves}
-use Rattle.line_file.specs.Cells.{cell_at, text_added, texts_put}
-use Rattle.line_file.specs.declared.cell.Cell.{Cell}
-use Rattle.record_keys.specs.declared.key_places.Spot.TheVariants.{At}
-use Rattle.record_keys.specs.KeyPlaces.{Notes, Widens, has_key}
-use Rattle.record_keys.specs.Keys.{BringsOnly}
+use Rattle.table.specs.Cells.{cell_at, text_added, texts_put}
+use Rattle.table.specs.declared.cell.Cell.{Cell}
+use Rattle.table.specs.declared.key_places.Spot.TheVariants.{At}
+use Rattle.table.specs.KeyPlaces.{Notes, Widens, has_key}
+use Rattle.table.specs.Keys.{BringsOnly}
 use Rattle.account_model.specs.RecordEdits.{TellsSame}
 use Rattle.table.specs.Changed.{text_becomes, text_instead, text_put, texts_becoming, texts_with}
 use Rattle.table.specs.TableCells.{AreKept, HoldsIn, HoldsOf, IsTold}

@@ -12,10 +12,10 @@ use Rattle.account_model.specs.Format.{Format, is_named}
 use Rattle.account_model.specs.Ids.{is_used}
 use Rattle.account_model.specs.Text.{is_listed}
 use Rattle.line_edits.specs.Naming.{TouchesOnly}
-use Rattle.line_file.specs.Cells.{ArePlaced}
-use Rattle.line_file.specs.declared.cell.Cell.{Cell}
-use Rattle.record_keys.specs.KeyPlaces.{ArePlacesOf}
-use Rattle.record_keys.proofs.FoundPlaces.{found-places}
+use Rattle.table.specs.Cells.{ArePlaced}
+use Rattle.table.specs.declared.cell.Cell.{Cell}
+use Rattle.table.specs.KeyPlaces.{ArePlacesOf}
+use Rattle.table.proofs.FoundPlaces.{found-places}
 use Rattle.table.specs.TableCells.{IsSound, Reaches, ReachesNames, TouchesAt}
 use Rattle.table.proofs.ReachLemmas.{reached-touches, there-all, there-both, there-weaker}
 

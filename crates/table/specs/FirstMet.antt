@@ -5,9 +5,9 @@ use Rattle.account_model.specs.Edits as model
 use Rattle.account_model.specs.Edits.Edit.{Become}
 use Rattle.account_model.specs.Format.{Format}
 use Rattle.line_edits.specs.declared.edit.Edit.{Edit}
-use Rattle.line_file.specs.declared.cell.Cell.{Cell}
-use Rattle.record_keys.specs.KeyPlaces.{has_key}
-use Rattle.record_keys.specs.Keys.{Needs}
+use Rattle.table.specs.declared.cell.Cell.{Cell}
+use Rattle.table.specs.KeyPlaces.{has_key}
+use Rattle.table.specs.Keys.{Needs}
 use Rattle.table.specs.LastEdits.{HoldsOfLast, IsOneOf}
 use Rattle.table.specs.Met.{earlier, first_in, has_met}
 use Rattle.table.specs.TableCells.{HoldsThere}

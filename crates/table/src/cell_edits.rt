@@ -6,14 +6,15 @@ ghost use Rattle.account_model.specs.Edits as model;
 ghost use Rattle.account_model.specs.RecordEdits.{IsWrittenEdit};
 ghost use Rattle.account_model.specs.Written.{IsWritten};
 ghost use Rattle.line_edits.specs.SeenEdits.{seen_edit};
-ghost use Rattle.line_file.specs.Cells.{lines_now};
+ghost use Rattle.table.specs.Cells.{lines_now};
 ghost use Rattle.table.specs.Changed.{changed_there};
 ghost use Rattle.table.specs.TableCells.{cells_there, has_named_in};
 
+use crate::key_places::Spot;
 use crate::keyed_cells::KeyedCells;
+use crate::keys::KeyedRecord;
 use crate::new_texts::{are_left, changed_texts, texts_with};
 use line_edits::Edit;
-use record_keys::{KeyedRecord, Spot};
 use std::alloc::{AllocError, Global};
 
 impl<'a, R: KeyedRecord + Drop> KeyedCells<'a, R> {

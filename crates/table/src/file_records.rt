@@ -10,15 +10,15 @@ ghost use Rattle.table.specs.Standing.{file_seen};
 ghost use Rattle.table.specs.TableEdits.{AreWritten, multiple_by, table_by};
 
 use crate::edited::edited;
+use crate::file_text::FileText;
 use crate::files::SeenFile;
 use crate::keyed_cells::KeyedCells;
+use crate::keys::KeyedRecord;
 use crate::named_texts::push_named;
 use crate::search::text_of;
 use acct_tables::{Lines, MANY, from_marks};
 use acct_text::Bytes;
 use line_edits::{ChangedNames, Edit};
-use line_file::FileText;
-use record_keys::KeyedRecord;
 use std::alloc::{AllocError, Global};
 
 /// The records of the name in a file, in the order of lines.

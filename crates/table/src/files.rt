@@ -3,8 +3,8 @@ ghost use Rattle.std.specs.Prelude.{◌≡◌, None, IfOk};
 ghost use Rattle.acct_text.specs.Contents.{same_content};
 ghost use Rattle.table.specs.Standing.{IsTaken, file_seen};
 
+use crate::file_text::FileText;
 use acct_text::Bytes;
-use line_file::FileText;
 use std::alloc::AllocError;
 
 /// The file of a table, which is absent where there is none.

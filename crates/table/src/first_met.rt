@@ -9,9 +9,9 @@ ghost use Rattle.table.specs.Met.{earlier, first_in, has_met};
 ghost use Rattle.table.specs.TableEdits.{AreWritten};
 
 use crate::keyed_cells::KeyedCells;
+use crate::keys::KeyedRecord;
 use crate::last_edits::{LastEdits, have_same};
 use line_edits::Edit;
-use record_keys::KeyedRecord;
 use std::alloc::{AllocError, Global};
 
 /// What is known of such records by the edits that were asked about.

@@ -1,12 +1,14 @@
 // The index of the keys of a table's lines, gathered in one pass, and the places of all lines (passwd(5),
 // shadow(5), group(5), gshadow(5), subuid(5), subgid(5)).
 ghost use Rattle.std.specs.Prelude.{◌≡◌, map, IfOk};
-ghost use Rattle.line_file.specs.Cells.{ArePlaced};
-ghost use Rattle.record_keys.specs.KeyPlaces.{Widens, told_places};
+ghost use Rattle.table.specs.Cells.{ArePlaced};
+ghost use Rattle.table.specs.KeyPlaces.{Widens, told_places};
 ghost use Rattle.table.specs.TableCells.{HoldsIn, HoldsThere, IsTold};
 
-use line_file::{Cell, LineFile};
-use record_keys::{KeyPlaces, KeyedRecord};
+use crate::cell::Cell;
+use crate::file::LineFile;
+use crate::key_places::KeyPlaces;
+use crate::keys::KeyedRecord;
 use std::alloc::{AllocError, Global};
 
 /// The index of the records of a file, which has so many bytes.

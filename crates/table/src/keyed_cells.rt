@@ -1,29 +1,28 @@
 // The lines of a table's file with an index of where records may have a key: what is found in them
 // (passwd(5), shadow(5), group(5), gshadow(5), subuid(5), subgid(5)). A look-up reads the texts in the
 // places that the index tells of its key, as no other text is a record with the key.
-ghost use Rattle.std.specs.Prelude.{◌≡◌, Bool, filter, find, map, nat_le, IfOk, IfSome};
+ghost use Rattle.std.specs.Prelude.{◌≡◌, filter, find, nat_le, IfOk};
 ghost use Rattle.std.specs.List.{list_any};
-ghost use Rattle.std.specs.Vec.{vec_items};
 ghost use Rattle.acct_text.specs.Lines.{file_bytes, lines_of};
 ghost use Rattle.account_model.specs.Format.{count_named, find_named, has_named, is_named, records_of};
-ghost use Rattle.account_model.specs.Text.{is_listed};
 ghost use Rattle.acct_tables.specs.SeenLines.{AreOfFile};
-ghost use Rattle.acct_tables.specs.Marks.{marks_in};
-ghost use Rattle.line_file.specs.Cells.{AreMarked, cells_from, lines_now};
-ghost use Rattle.record_keys.specs.KeyPlaces.{has_key};
-ghost use Rattle.table.specs.TableCells.{Reaches, TouchesAt, has_named_at};
+ghost use Rattle.table.specs.Cells.{cells_from, lines_now};
+ghost use Rattle.table.specs.TableCells.{has_named_at};
 
-use crate::gathering::{all_places, gathered};
+use crate::file::LineFile;
+use crate::file_text::FileText;
+use crate::gathering::gathered;
+use crate::key_names::own_key;
+use crate::key_places::KeyPlaces;
+use crate::keys::KeyedRecord;
 use crate::named_texts::{
     all_named, are_several_named, first_accepted, first_named, has_in_one, has_named,
 };
+use crate::place_lists::ListedPlaces;
 use crate::search::{RecordTest, first_passing};
 use crate::texts_there::TextsThere;
-use acct_tables::{Marks, read_record};
+use acct_tables::read_record;
 use acct_text::Bytes;
-use line_edits::ChangedNames;
-use line_file::{FileText, LineFile};
-use record_keys::{KeyPlaces, KeyedRecord, ListedPlaces, own_key};
 use std::alloc::{AllocError, Global};
 use std::marker::{Model, PhantomData};
 
@@ -57,8 +56,8 @@ impl<'a, R: KeyedRecord + Drop> Drop for KeyedCells<'a, R> {
 
 impl<'a, R: KeyedRecord> Model for KeyedCells<'a, R> {
     ghost use Rattle.std.specs.Prelude.{List};
-    ghost use Rattle.line_file.specs.declared.cell.Cell.{Cell};
-    ghost use Rattle.record_keys.specs.KeyPlaces.{told_places};
+    ghost use Rattle.table.specs.declared.cell.Cell.{Cell};
+    ghost use Rattle.table.specs.KeyPlaces.{told_places};
     ghost use Rattle.table.specs.TableCells.{AreKept};
 
     ghost Value = { List Cell };
@@ -128,110 +127,6 @@ impl<'a, R: KeyedRecord + Drop> KeyedCells<'a, R> {
         ensures { IfOk result (λ bytes. bytes ≡ file_bytes (lines_now self.now)) }
     {
         self.file.text()
-    }
-
-    /// The places where records may have the key, from the first to the last: those that are told of it, and
-    /// all where nothing is told.
-    pub(crate) fn reached(&self, alloc: Global, key: u64) -> Result<Vec<usize>, AllocError>
-        ensures { IfOk result (λ places.
-            Reaches R.format (λ r. has_key key (R.keys r)) self.now places.items) }
-    {
-        match self.keys.places(alloc, key)? {
-            Some(places) => Ok(places),
-            None => self.all(alloc),
-        }
-    }
-
-    // All places, from the first to the last.
-    fn all(&self, alloc: Global) -> Result<Vec<usize>, AllocError>
-        ensures { IfOk result (λ places.
-            (test : R → Bool) → Reaches R.format test self.now places.items) }
-    {
-        all_places(alloc, &self.file)
-    }
-
-    // The places of lines with one of the marks, from the first to the last, and all where texts were put.
-    fn marked(&self, alloc: Global, marks: Marks<'_>) -> Result<Vec<usize>, AllocError>
-        ensures { IfOk result (λ places.
-            AreMarked (marks_in marks.entry) self.now places.items) }
-    {
-        match self.file.marked(alloc, marks)? {
-            Some(places) => Ok(places),
-            None => all_places(alloc, &self.file),
-        }
-    }
-
-    /// The places where records of the name may stand, from the first to the last: those that are told of its
-    /// own key, and where nothing is told those of lines with the name.
-    pub(crate) fn places_of(&self, alloc: Global, name: &[u8]) -> Result<Vec<usize>, AllocError>
-        ensures { IfOk result (λ places.
-            Reaches R.format (is_named R.format name.now) self.now places.items) }
-    {
-        match self.keys.places(alloc, own_key(name))? {
-            Some(places) => Ok(places),
-            None => self.marked(alloc, Marks::one(name)),
-        }
-    }
-
-    /// The places where records may stand that the change touches, from the first to the last: those that are
-    /// told of its key or names, and where nothing is told those of lines with a mark of it.
-    pub(crate) fn touched(
-        &self,
-        alloc: Global,
-        change: &R::Change,
-    ) -> Result<Vec<usize>, AllocError>
-        ensures { IfOk result (λ places.
-            TouchesAt R.format (R.becomes change.now) self.now places.items) }
-    {
-        match self.told_of(alloc, change)? {
-            Some(places) => Ok(places),
-            None => self.marked_of(alloc, change),
-        }
-    }
-
-    // Those that are told of a key that the change needs, or of the names that it tells; none where nothing is
-    // told.
-    fn told_of(&self, alloc: Global, change: &R::Change) -> Result<Option<Vec<usize>>, AllocError>
-        ensures { IfOk result (λ places. IfSome places (λ places.
-            TouchesAt R.format (R.becomes change.now) self.now places.items)) }
-    {
-        if let Some(key) = R::needed(change) {
-            return self.keys.places(alloc, key);
-        }
-        match R::touched_names(change) {
-            Some(ChangedNames::Each(names)) if self.is_indexed => {
-                Ok(Some(self.places_of_each(alloc, names)?))
-            }
-            _ => Ok(None),
-        }
-    }
-
-    // Those of lines with a mark of the change, and all where it has none or texts were put.
-    fn marked_of(&self, alloc: Global, change: &R::Change) -> Result<Vec<usize>, AllocError>
-        ensures { IfOk result (λ places.
-            TouchesAt R.format (R.becomes change.now) self.now places.items) }
-    {
-        let _ = &self.file;
-        match R::marks(change) {
-            Some(marks) => self.marked(alloc, marks),
-            None => self.all(alloc),
-        }
-    }
-
-    // The places where records of one of the names may stand, from the first to the last.
-    fn places_of_each(&self, alloc: Global, names: &[Vec<u8>]) -> Result<Vec<usize>, AllocError>
-        ensures { IfOk result (λ places. Reaches R.format
-            (λ r. is_listed (R.format.name r) (map vec_items names.now)) self.now places.items) }
-    {
-        let _ = &self.file;
-        let mut places = Vec::new(alloc);
-        'names: for name in names {
-            let found = self.places_of(alloc, name.as_slice())?;
-            places.extend_from_slice(&found)?;
-        }
-        places.sort_unstable();
-        places.dedup();
-        Ok(places)
     }
 
     /// The first record that has the name. It takes no pass over the lines.

@@ -9,17 +9,17 @@ ghost use Rattle.account_model.specs.Format.{records_of};
 ghost use Rattle.account_model.specs.RecordEdits.{IsWrittenEdit};
 ghost use Rattle.line_edits.specs.SeenEdits.{seen_edit, seen_edits};
 ghost use Rattle.line_edits.specs.Touching.{is_met};
-ghost use Rattle.line_file.specs.Cells.{cell_at, lines_now};
+ghost use Rattle.table.specs.Cells.{cell_at, lines_now};
 ghost use Rattle.table.specs.Met.{MeetsAt, TouchesNamed, first_in, has_met, meets};
 ghost use Rattle.table.specs.TableCells.{cells_there, records_read};
 ghost use Rattle.table.specs.TableEdits.{AreWritten, multiple_by};
 
+use crate::cell::Texts;
 use crate::keyed_cells::KeyedCells;
+use crate::keys::KeyedRecord;
 use acct_tables::name_of;
 use acct_text::Bytes;
 use line_edits::{ChangedNames, Edit, leaves, touches};
-use line_file::Texts;
-use record_keys::KeyedRecord;
 use std::alloc::{AllocError, Global};
 
 impl<'a, R: KeyedRecord + Drop> KeyedCells<'a, R> {

@@ -5,11 +5,11 @@ ghost use Rattle.account_model.specs.Tables.{table_records};
 ghost use Rattle.table.specs.Accepting.{IsKeyOf, IsNumberOf, is_accepted};
 ghost use Rattle.table.specs.TablesOfLines.{lines_in};
 
+use crate::keys::KeyedRecord;
 use acct_lines::{GroupLine, GroupRecord, PasswdLine, PasswdRecord};
 use acct_tables::{Lines, from_mark, read_record};
 use acct_text::Bytes;
 use itoa::Buffer;
-use record_keys::KeyedRecord;
 use std::alloc::{AllocError, Global};
 
 /// A test of the records R, made on a line where it stands.

@@ -3,7 +3,8 @@
 ghost use Rattle.std.specs.Prelude.{◌≡◌, [], ◌∷◌, MatchOption};
 ghost use Rattle.table.specs.TableCells.{texts_at, texts_there};
 
-use line_file::{LineFile, Texts};
+use crate::cell::Texts;
+use crate::file::LineFile;
 use std::marker::Model;
 
 /// The texts in places of a file that are still to be looked at, one place after another. Contracts see

@@ -14,9 +14,8 @@ use account_model::Refusal;
 use acct_text::Tab;
 use carried_tables::CarriedTables;
 use line_edits::Edit;
-use record_keys::KeyedRecord;
 use std::alloc::{AllocError, Global};
-use table::Table;
+use table::{KeyedRecord, Table};
 
 /// The refusal of the first record that the script touches and whose name has several records in its
 /// table.

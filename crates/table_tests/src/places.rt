@@ -1,7 +1,7 @@
 // Texts that are put into the places of a file's lines, and lines that are added (group(5)).
 use acct_text::Bytes;
-use line_file::{FileText, LineFile};
 use std::test::Fail;
+use table::{FileText, LineFile};
 
 // How many texts stand in the place; none where no line begins there.
 fn count_at(file: &LineFile<'_>, place: usize) -> Option<usize> {

@@ -1,7 +1,7 @@
 use Rattle.std.proofs.Common.{◌∙◌, refl, sym, ap, subst}
 use Rattle.std.specs.List.{AllByRecursion}
-use Rattle.record_keys.specs.KeyPlaces.{has_key, told_places}
-use Rattle.record_keys.specs.Keys.{keys_in}
+use Rattle.table.specs.KeyPlaces.{has_key, told_places}
+use Rattle.table.specs.Keys.{keys_in}
 use Rattle.table.specs.TableCells.{HoldsOf, IsTold}
 use Rattle.table.proofs.gathering.note_cell.Goals as goal
 

@@ -1,7 +1,7 @@
 use Rattle.std.proofs.Common.{◌∙◌, sym, ap, subst}
 use Rattle.std.proofs.lemmas.Result.{IfOk-weaker}
 use Rattle.std.specs.List.{AllByRecursion}
-use Rattle.line_file.specs.Cells.{ArePlaced}
+use Rattle.table.specs.Cells.{ArePlaced}
 use Rattle.table.specs.TableCells.{IsSound, Reaches}
 use Rattle.table.proofs.ReachLemmas.{all-reaches, places_in}
 use Rattle.table.proofs.keyed_cells.KeyedCells.all.Goals as goal

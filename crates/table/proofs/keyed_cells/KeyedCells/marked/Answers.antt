@@ -2,7 +2,7 @@ use Rattle.std.proofs.Common.{◌∙◌, sym, ap, subst}
 use Rattle.std.specs.Prelude.{IfSome}
 use Rattle.std.proofs.lemmas.Result.{IfOk-weaker}
 use Rattle.acct_tables.specs.Marks.{marks_in}
-use Rattle.line_file.specs.Cells.{AreMarked, ArePlaced}
+use Rattle.table.specs.Cells.{AreMarked, ArePlaced}
 use Rattle.table.proofs.ReachLemmas.{all-marked, places_in}
 use Rattle.table.proofs.keyed_cells.KeyedCells.marked.Goals as goal
 

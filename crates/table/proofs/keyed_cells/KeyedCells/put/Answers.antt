@@ -3,8 +3,8 @@ use Rattle.std.specs.Prelude.{Some, None, find, option_map, if◌then◌else◌}
 use Rattle.std.proofs.lemmas.Result.{on_ok_weaker}
 use Rattle.account_model.specs.Edits.{put_first, with_line}
 use Rattle.account_model.specs.Format.{has_named, records_of}
-use Rattle.line_file.specs.Cells.{lines_now}
-use Rattle.line_file.specs.declared.cell.Cell.{Cell}
+use Rattle.table.specs.Cells.{lines_now}
+use Rattle.table.specs.declared.cell.Cell.{Cell}
 use Rattle.table.specs.TableCells.{has_named_in}
 use Rattle.table.proofs.PutRecords.{has-by}
 use Rattle.table.proofs.keyed_cells.KeyedCells.put.Goals as goal

@@ -1,5 +1,5 @@
 use Rattle.std.proofs.Common.{subst, sym}
-use Rattle.record_keys.specs.Keys.{user_keys}
+use Rattle.table.specs.Keys.{user_keys}
 use Rattle.table.specs.Accepting.{IsKeyOf}
 use Rattle.user_removal.specs.Others.{is_other_with}
 use Rattle.user_removal.proofs.OtherNumbers.{key-of-other}

@@ -1,3 +1,0 @@
-pub mod KeyPlaces
-pub mod Keys
-pub mod OwnKeys
