@@ -9,22 +9,22 @@ use account_model::ShadowRecord;
 use acct_text::{Bytes, push_decimal};
 use std::alloc::{AllocError, Global};
 
-/// The line of the user, with the hash and the aging of the record.
+/// The line of the user, with the hash and the aging of this record.
 pub(crate) fn status_line(
     alloc: Global,
     user: &[u8],
-    record: &ShadowRecord,
+    aging: &ShadowRecord,
 ) -> Result<Bytes, AllocError>
-    ensures { IfOk result (λ line. line ≡ status_line user.now record.now.hash record.now) }
+    ensures { IfOk result (λ line. line ≡ status_line user.now aging.now.hash aging.now) }
 {
-    let date = shown_date(alloc, record.last_change)?;
+    let date = shown_date(alloc, aging.last_change)?;
     let mut line = Bytes::of(alloc, user)?;
-    push_word(&mut line, password_state(record.hash.as_slice()))?;
+    push_word(&mut line, password_state(aging.hash.as_slice()))?;
     push_word(&mut line, date.as_slice())?;
-    push_days(&mut line, record.minimum)?;
-    push_days(&mut line, record.maximum)?;
-    push_days(&mut line, record.warning)?;
-    push_days(&mut line, record.inactive)?;
+    push_days(&mut line, aging.minimum)?;
+    push_days(&mut line, aging.maximum)?;
+    push_days(&mut line, aging.warning)?;
+    push_days(&mut line, aging.inactive)?;
     line.push(b"\n")?;
     Ok(line)
 }

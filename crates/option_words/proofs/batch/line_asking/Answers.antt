@@ -35,8 +35,8 @@ returns-in_ok-fault-in-Err c =
     elim c.in-Err.ensures.first_fault [
       | inl first ↦
           let is : fault_line words ≡ Some found =
-              subst (λ (ws : List Word). fault_line ws ≡ Some found) c.as_slice.ensures.value
-              (first ∙ ap Some (sym told.0)) in
+          subst (λ (ws : List Word). fault_line ws ≡ Some found) c.as_slice.ensures.value
+          (first ∙ ap Some (sym told.0)) in
           sym (ap (line_asking c.args.number words)
           (fault-read (request_as OfLine words) found is))
       | inr memory ↦ absurd (told.1 memory)
