@@ -10,3 +10,4 @@ pub mod SortLemmas
 pub mod KeyedLines
 pub mod SortedOnce
 pub mod ChangeLemmas
+pub mod GatherLemmas

@@ -10,6 +10,7 @@
 
 pub mod conversion;
 mod decision;
+mod gathering;
 pub mod getsubids;
 pub mod grpck;
 mod hashes;
