@@ -11,3 +11,5 @@ pub mod KeyedLines
 pub mod SortedOnce
 pub mod ChangeLemmas
 pub mod GatherLemmas
+pub mod GrownLemmas
+pub mod GatheredLemmas

@@ -1,5 +1,5 @@
-// What pwconv and grpconv make of records (pwconv(8)): fields become `x`, and records of hashes take
-// fields over, or go.
+// What pwconv and grpconv make of records (pwconv(8)): fields become `x`, and records of hashes
+// take fields over, or go.
 ghost use Rattle.std.specs.Prelude.{◌≡◌, ℕ, List, [], ◌∷◌, not, Some};
 ghost use Rattle.account_model.specs.Records.{shadow_format};
 ghost use Rattle.acct_lines.specs.Shown.{shadow_shown};
@@ -70,9 +70,13 @@ impl<H: SecretRecord> Taking<H> for FieldTaking {
     }
 }
 
-/// Passwords of users, which were changed on this day.
+/// Passwords of users, which were changed on this day; a new record has this aging.
+#[derive(Drop)]
 pub(crate) struct UserTaking {
-    day: u32,
+    pub(crate) day: u32,
+    pub(crate) minimum: Option<u32>,
+    pub(crate) maximum: Option<u32>,
+    pub(crate) warning: Option<u32>,
 }
 
 impl Taking<ShadowRecord> for UserTaking {
@@ -102,12 +106,12 @@ fn user_differs(user: &ShadowLine<'_>, field: &[u8], day: u32) -> bool
     user.hash != field || user.last_change != Some(day)
 }
 
-/// A record of hashes takes over the field of the name that is kept, where that isn't `x`; without one it
-/// goes.
+/// A record of hashes takes over the field of the name that is kept, where that isn't `x`; without
+/// one it goes.
 #[derive(Drop)]
 pub(crate) struct Gathering<'m, 'a, T> {
-    fields: &'m Secrets<'a>,
-    taking: &'m T,
+    pub(crate) fields: &'m Secrets<'a>,
+    pub(crate) taking: &'m T,
 }
 
 impl<'m, 'a, H: TableRecord + Drop, T: Taking<H>> LineChange<H> for Gathering<'m, 'a, T> {
