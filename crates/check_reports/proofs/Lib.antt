@@ -10,3 +10,6 @@ pub mod SortLemmas
 pub mod KeyedLines
 pub mod SortedOnce
 pub mod ChangeLemmas
+pub mod GatherLemmas
+pub mod GrownLemmas
+pub mod GatheredLemmas

@@ -8,3 +8,4 @@ pub mod Sorted
 pub mod Secrets
 pub mod LineChanges
 pub mod Converted
+pub mod Gathered

@@ -56,13 +56,13 @@ pub fn grpunconv(alloc: Global, tool: Tool, files: &Files) -> Result<Decision, A
     shown::<GroupRecord, GshadowRecord>(alloc, tool, &pair)
 }
 
-// A table and that of its hashes, with their names.
+/// A table and that of its hashes, with their names.
 #[derive(Drop)]
-struct Pair<'f> {
-    main: &'f Option<Bytes>,
-    hashes: &'f Option<Bytes>,
-    main_tab: Tab,
-    hashes_tab: Tab,
+pub(crate) struct Pair<'f> {
+    pub(crate) main: &'f Option<Bytes>,
+    pub(crate) hashes: &'f Option<Bytes>,
+    pub(crate) main_tab: Tab,
+    pub(crate) hashes_tab: Tab,
 }
 
 // Each record of the main table gets its hash as field, and all records of hashes go.
@@ -96,8 +96,8 @@ fn shown<M: SecretRecord + Drop, H: SecretRecord + Drop>(
     decided(alloc, pair, main, hashes)
 }
 
-// The first name that the changes touch and of which its table has several.
-fn multiple<M: TableRecord, H: TableRecord, C: LineChange<M>, D: LineChange<H>>(
+//// The first name that the changes touch and of which its table has several.
+pub(crate) fn multiple<M: TableRecord, H: TableRecord, C: LineChange<M>, D: LineChange<H>>(
     alloc: Global,
     pair: &Pair<'_>,
     main_order: &ByPlace,
@@ -136,8 +136,8 @@ fn first_in_file<R: TableRecord, C: LineChange<R>>(
     }
 }
 
-// The bytes of a file with what becomes of its lines; an absent one stays absent.
-fn changed_file<R: TableRecord, C: LineChange<R>>(
+/// The bytes of a file with what becomes of its lines; an absent one stays absent.
+pub(crate) fn changed_file<R: TableRecord, C: LineChange<R>>(
     alloc: Global,
     file: &Option<Bytes>,
     change: &C,
@@ -151,8 +151,8 @@ fn changed_file<R: TableRecord, C: LineChange<R>>(
     }
 }
 
-// The decision by the new bytes of both tables.
-fn decided(
+/// The decision by the new bytes of both tables.
+pub(crate) fn decided(
     alloc: Global,
     pair: &Pair<'_>,
     main: Option<Bytes>,

@@ -1,6 +1,6 @@
 // What a tool answers: the one place that goes from the tool to its code.
 ghost use Rattle.std.specs.Prelude.{◌≡◌, ◌≤◌, [], length};
-ghost use Rattle.acct_text.specs.Limits.{table_limit};
+ghost use Rattle.acct_text.specs.Limits.{last_day, table_limit};
 ghost use Rattle.login_defs.specs.Held.{IsHeld};
 ghost use Rattle.suite_tools.specs.Carrying.{AnswersUnder};
 
@@ -9,9 +9,11 @@ use acct_text::Files;
 use aging_commands::chage::{chage, chage_report};
 use aging_commands::chpasswd::chpasswd;
 use aging_commands::passwd::{passwd, passwd_report};
+use check_reports::conversion::{grpunconv, pwunconv};
 use check_reports::getsubids::getsubids;
 use check_reports::grpck::grpck;
 use check_reports::pwck::pwck;
+use check_reports::pwconv::{grpconv, pwconv};
 use command_values::Asked;
 use group_commands::gpasswd::gpasswd;
 use group_commands::groupadd::groupadd;
@@ -51,6 +53,7 @@ pub(crate) fn answer_of(
 ) -> Result<Answered, ToolFault>
     requires small { length input.now ≤ table_limit }
     requires held { IsHeld defs.now }
+    requires in_time { day ≤ last_day }
     ensures { AnswersUnder defs.now day asked.now input.now files.now tables.now result }
 {
     match asked.tool() {
@@ -79,6 +82,10 @@ pub(crate) fn answer_of(
         Tool::Chpasswd => Ok(quietly(alloc, chpasswd(alloc, input, tables, day)?)),
         Tool::Pwck => Ok(Answered::Decides(pwck(alloc, asked, files, day)?)),
         Tool::Grpck => Ok(Answered::Decides(grpck(alloc, asked, files)?)),
+        Tool::Pwconv => Ok(Answered::Decides(pwconv(alloc, asked.tool(), files, defs, day)?)),
+        Tool::Pwunconv => Ok(Answered::Decides(pwunconv(alloc, asked.tool(), files)?)),
+        Tool::Grpconv => Ok(Answered::Decides(grpconv(alloc, asked.tool(), files)?)),
+        Tool::Grpunconv => Ok(Answered::Decides(grpunconv(alloc, asked.tool(), files)?)),
         Tool::Getsubids => Ok(Answered::Decides(getsubids(alloc, asked, files)?)),
         Tool::Batch => Ok(Answered::Lines),
     }

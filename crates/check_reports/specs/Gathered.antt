@@ -1,0 +1,46 @@
+-- What pwconv and grpconv make of the table of hashes (pwconv(8)).
+use Rattle.std.specs.Prelude.{◌≡◌, ◌||◌, ℕ, List, [], ◌∷◌, bytes_eq, is_some, map, None, Some, if◌then◌else◌}
+use Rattle.acct_text.specs.Lines.{lines_of}
+use Rattle.account_model.specs.Conversion.{Accounts, gathered}
+use Rattle.account_model.specs.Edits.{AddMissing, Become, Edit}
+use Rattle.account_model.specs.Format.{Format, has_named, records_of}
+use Rattle.account_model.specs.Hashes.{elsewhere}
+use Rattle.acct_tables.specs.NameIndex.{TellsAtMost, told}
+use Rattle.check_reports.specs.declared.making.Grown.{Grown}
+use Rattle.check_reports.specs.declared.secrets.Secrets.{Secrets}
+use Rattle.check_reports.specs.Secrets.{found_text}
+
+-- the record takes over the field that is kept under its name, where that isn't `x`; without one it goes
+abbrev pub gathered_by : {H : Type 0} → Format H → Secrets → (List ℕ → H → H) → H → List H
+gathered_by format fields take h = elim (found_text fields (format.name h)) [
+  | None ↦ []
+  | Some field ↦ (if bytes_eq field elsewhere then h else take field h) ∷ []
+]
+
+-- what is made of main records is added where its name is missing
+abbrev pub made_edits : {M H : Type 0} → (M → H) → List M → List (Edit H)
+made_edits make mains = map (λ m. AddMissing (make m)) mains
+
+-- all edits of the table of hashes, by the fields that are kept
+abbrev pub gathered_edits : {M H : Type 0} → Format H → Secrets → (List ℕ → H → H) → (M → H)
+    → List M → List (Edit H)
+gathered_edits format fields take make mains =
+    Become (gathered_by format fields take) ∷ made_edits make mains
+
+-- those by the main records, of which the fields alone are taken over
+abbrev pub taken_edits : {M H : Type 0} → Accounts M H → (List ℕ → H → H) → (M → H)
+    → List M → List (Edit H)
+taken_edits accounts take make mains =
+    gathered accounts (λ m h. take (accounts.field m) h) make mains
+
+-- what is made of a main record has its name; and no empty text is a record
+pub record IsMaking {Self M H : Type 0} (main : Format M) (format : Format H)
+    (make : Self → M → H) : Type 0 where
+  pub named : (making : Self) (m : M) → format.name (make making m) ≡ main.name m
+  pub no_blank : format.read [] ≡ None
+
+-- the names that are told are those of the records, and each new one is told once
+pub record IsGrown {H : Type 0} (format : Format H) (grown : Grown) : Type 0 where
+  pub names : (name : List ℕ) → has_named format name (records_of format (lines_of grown.text))
+      ≡ (is_some (told grown.there name) || is_some (told grown.added name))
+  pub few : TellsAtMost 1 (told grown.added)
