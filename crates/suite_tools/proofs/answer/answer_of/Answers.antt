@@ -1,22 +1,26 @@
--- The script of useradd comes with its report; groupadd reports nothing, whether its group exists or not.
+-- The script of useradd comes with its report; groupadd reports nothing, whether its group exists or not;
+-- and pwconv decides under whichever settings.
 use Rattle.std.proofs.Common.{◌≡◌, ◌∙◌, ℕ, Bool, true, false, List, [], Option, Some, Result, Ok, Err, ap, refl, subst, sym}
 use Rattle.std.specs.Prelude.{IsErr, if◌then◌else◌}
 use Rattle.std.specs.Result.{IsErrAnd}
 use Rattle.acct_text.specs.declared.files.Files.{Files}
-use Rattle.account_model.specs.Action.{Action, changes}
+use Rattle.account_model.specs.Action.{Action, changes, outcome_of}
 use Rattle.account_model.specs.Change.{action_by}
 use Rattle.account_model.specs.Groupadd.{groupadd_checks, groupadd_script, is_content}
 use Rattle.account_model.specs.Request.{Request, operand}
 use Rattle.account_model.specs.Settings.{Setting}
 use Rattle.account_model.specs.Tables.{Script, no_edits}
 use Rattle.account_model.specs.Useradd.{useradd}
-use Rattle.account_model.specs.Words.{is_batch}
+use Rattle.account_model.specs.Conversion.{pwconv}
+use Rattle.account_model.specs.Words.{is_batch, is_for_lines}
 use Rattle.account_model.specs.declared.refusal.Refusal.{Refusal}
 use Rattle.account_model.specs.declared.tool.Tool.{Tool}
-use Rattle.account_model.specs.declared.tool.Tool.TheVariants.{Groupadd, Useradd}
+use Rattle.account_model.specs.declared.tool.Tool.TheVariants.{Groupadd, Pwconv, Useradd}
 use Rattle.login_defs.specs.Held.{HasSettings}
 use Rattle.login_defs.specs.declared.defs.Defs.{Defs}
 use Rattle.table_edits.specs.Acting.{ActsBy, IsReportOf}
+use Rattle.check_reports.specs.Decided.{DecidesBy}
+use Rattle.tool_answers.specs.Decisions.{Decides}
 use Rattle.tool_answers.specs.declared.tool_fault.ToolFault.{ToolFault}
 use Rattle.tool_answers.specs.declared.tool_fault.ToolFault.TheVariants.{Memory, Refused}
 use Rattle.suite_tools.specs.Carrying.{ActsUnder, AnswersUnder, IsOfAction}
@@ -104,3 +108,17 @@ returns-in_ok-groupadd-in-Groupadd c =
       quiet (is_content (operand asked) asked tables) (groupadd_checks (operand asked) asked) _
           (groupadd_script (operand asked) asked tables settings),
     )))
+
+pub returns-in_ok-pwconv-in-Pwconv : goal.returns-in_ok-pwconv-in-Pwconv
+returns-in_ok-pwconv-in-Pwconv c =
+    let asked = c.args.asked.now in
+    let files = c.args.files.now in
+    let decision = c.in_ok-pwconv-in-Pwconv.field-0 in
+    let is = sym c.tool.ensures ∙ c.in-Pwconv.is in (
+      ap is_for_lines is,
+      acts c.args.defs.now c.args.day asked c.args.input.now files Pwconv
+          (λ action. Decides asked.tool files (outcome_of action files) decision) is refl
+          (λ settings holds.
+          subst (λ (tool : Tool). DecidesBy tool (pwconv files settings c.args.day) files decision)
+          c.tool-in-Pwconv.ensures (c.in_ok-pwconv-in-Pwconv.ensures settings holds)),
+    )
