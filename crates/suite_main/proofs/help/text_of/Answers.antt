@@ -33,6 +33,11 @@ returns-in-Chage c =
     subst (λ tool. helps_with tool c.text-in-Chage.result.now ≡ true) (sym c.in-Chage.is)
     c.text-in-Chage.ensures
 
+pub returns-in-Passwd : goal.returns-in-Passwd
+returns-in-Passwd c =
+    subst (λ tool. helps_with tool c.text-in-Passwd.result.now ≡ true) (sym c.in-Passwd.is)
+    c.text-in-Passwd.ensures
+
 pub returns-in-Pwck : goal.returns-in-Pwck
 returns-in-Pwck c =
     subst (λ tool. helps_with tool c.text-in-Pwck.result.now ≡ true) (sym c.in-Pwck.is)
