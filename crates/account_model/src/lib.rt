@@ -18,6 +18,7 @@ mod line_place;
 mod new_user;
 mod option_form;
 mod passwd_laws;
+mod plan_form;
 mod records;
 mod refusal;
 mod renaming_laws;
@@ -46,6 +47,7 @@ pub use line_place::LinePlace;
 pub use new_user::{Allotment, Plan};
 pub use option_form::{OptionForm, Rule, Test};
 pub use passwd_laws::lock_then_unlock;
+pub use plan_form::PlanForm;
 pub use records::{
     GREATEST_DAYS, GREATEST_ID, GroupRecord, GshadowRecord, PasswdRecord, ShadowRecord, SubidRecord,
 };
