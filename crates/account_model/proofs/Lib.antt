@@ -38,6 +38,9 @@ mod GroupdelRows
 mod GpasswdRows
 mod ChageRows
 mod ChpasswdRows
+mod ChfnRows
+pub mod ChfnScripts
+mod ChfnLaws
 mod ConversionRows
 mod PasswdRows
 mod PwckRows
