@@ -11,6 +11,7 @@ pub mod WrittenScripts
 pub mod MemberLaws
 pub mod SettingBounds
 pub mod GroupToolScripts
+pub mod GroupmemsScripts
 pub mod AgingToolScripts
 pub mod ConversionScripts
 pub mod ConversionLaws
@@ -36,8 +37,10 @@ mod GroupaddRows
 mod GroupmodRows
 mod GroupdelRows
 mod GpasswdRows
+mod GroupmemsRows
 mod ChageRows
 mod ChpasswdRows
+mod ChgpasswdRows
 mod ConversionRows
 mod PasswdRows
 mod PwckRows

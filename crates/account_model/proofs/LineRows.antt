@@ -169,9 +169,17 @@ asks_empty_value :
     asked "usermod -s '' ann" ≡ request Usermod (as_value (byte "s") [] ∷ []) "ann"
 asks_empty_value = refl
 
--- four tools have no place in a batch
+-- tools that read an input, checks and others have no place in a batch
 faulty_chpasswd : faulty "chpasswd -e" ≡ Some UnknownTool
 faulty_chpasswd = refl
+
+-- nor has chgpasswd
+faulty_chgpasswd : faulty "chgpasswd -e" ≡ Some UnknownTool
+faulty_chgpasswd = refl
+
+-- nor groupmems
+faulty_groupmems : faulty "groupmems -g q -p" ≡ Some UnknownTool
+faulty_groupmems = refl
 
 -- nor has pwck
 faulty_pwck : faulty "pwck -r" ≡ Some UnknownTool

@@ -27,6 +27,7 @@ pub mod Groupadd
 pub mod Groupmod
 pub mod Groupdel
 pub mod Gpasswd
+pub mod Groupmems
 pub mod Messages
 pub mod Change
 pub mod Batch

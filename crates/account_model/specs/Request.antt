@@ -40,8 +40,8 @@ value_of letter request = last_value (slice_index letter 0) request.options
 abbrev pub operand : Request → List ℕ
 operand request = elim request.operands [ [] ↦ [] | name ∷ rest ↦ name ]
 
--- the command only shows what stands: `pwck -r`, `grpck -r`, `getsubids` and `chage -l` (pwck(8),
--- grpck(8), getsubids(1), chage(1))
+-- the command only shows what stands: `pwck -r`, `grpck -r`, `getsubids`, `chage -l`, `passwd -S` and
+-- `groupmems -l` (pwck(8), grpck(8), getsubids(1), chage(1), passwd(1), groupmems(8))
 abbrev pub reports : Reporting → Request → Bool
 reports never request = false
 reports (where_given letter tables) request = has_option letter request

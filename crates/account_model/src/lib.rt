@@ -12,6 +12,7 @@ mod date_laws;
 mod deed_lines;
 mod fault;
 mod given;
+mod hashes_of;
 mod laws;
 mod line_laws;
 mod line_place;
@@ -38,6 +39,7 @@ pub use date_laws::{days_are_counted, days_have_dates};
 pub use deed_lines::{deeds_leave_unnamed, deeds_leave_untouched};
 pub use fault::LineFault;
 pub use given::Given;
+pub use hashes_of::HashesOf;
 pub use laws::{deeds_are_changes, done_lines_stay, reports_are_whole, tools_are_written};
 pub use line_laws::{
     faults_are_found, no_edits_no_change, other_text_stays, records_are_found, records_read_back,
