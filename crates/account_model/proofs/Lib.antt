@@ -41,6 +41,9 @@ mod GroupmemsRows
 mod ChageRows
 mod ChpasswdRows
 mod ChgpasswdRows
+mod ChfnRows
+pub mod ChfnScripts
+mod ChfnLaws
 mod ConversionRows
 mod PasswdRows
 mod PwckRows

@@ -15,6 +15,9 @@ pub mod Statuses
 pub mod Users
 pub mod Chage
 pub mod Chpasswd
+pub mod Chfn
+pub mod ChfnLaws
+pub mod Chsh
 pub mod Conversion
 pub mod ConversionLaws
 pub mod Passwd

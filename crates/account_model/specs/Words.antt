@@ -5,7 +5,7 @@ use Rattle.std.specs.List.{enumerate_from}
 use Rattle.account_model.specs.declared.words_of.WordsOf.{WordsOf}
 use Rattle.account_model.specs.declared.words_of.WordsOf.TheVariants.{Command, Line}
 use Rattle.account_model.specs.declared.tool.Tool.{Tool}
-use Rattle.account_model.specs.declared.tool.Tool.TheVariants.{Useradd, Usermod, Userdel, Groupadd, Groupmod, Groupdel, Gpasswd, Groupmems, Chage, Chpasswd, Chgpasswd, Passwd, Pwconv, Pwunconv, Grpconv, Grpunconv, Pwck, Grpck, Getsubids, Batch}
+use Rattle.account_model.specs.declared.tool.Tool.TheVariants.{Useradd, Usermod, Userdel, Chfn, Chsh, Groupadd, Groupmod, Groupdel, Gpasswd, Groupmems, Chage, Chpasswd, Chgpasswd, Passwd, Pwconv, Pwunconv, Grpconv, Grpunconv, Pwck, Grpck, Getsubids, Batch}
 use Rattle.account_model.specs.declared.word_fault.WordFault.{WordFault}
 use Rattle.account_model.specs.declared.word_fault.WordFault.TheVariants.{WordLimit, NoTool, UnknownTool, NoPrefix, EmptyPrefix, TooFew, Clash}
 use Rattle.account_model.specs.Text.{last_of}
@@ -22,7 +22,7 @@ tool_name tool = (row_of tool).name
 
 -- the tools, in the order of the enum
 abbrev pub tools : List Tool
-tools = Useradd ∷ Usermod ∷ Userdel ∷ Groupadd ∷ Groupmod ∷ Groupdel ∷ Gpasswd
+tools = Useradd ∷ Usermod ∷ Userdel ∷ Chfn ∷ Chsh ∷ Groupadd ∷ Groupmod ∷ Groupdel ∷ Gpasswd
     ∷ Groupmems ∷ Chage ∷ Chpasswd ∷ Chgpasswd ∷ Passwd ∷ Pwconv ∷ Pwunconv ∷ Grpconv ∷ Grpunconv
     ∷ Pwck ∷ Grpck ∷ Getsubids ∷ Batch ∷ []
 

@@ -6,6 +6,7 @@
 //! the law.
 #![tactic(auto)]
 
+mod chfn_laws;
 mod choice_laws;
 mod conversion_laws;
 mod date_laws;
@@ -33,6 +34,7 @@ mod word_fault;
 mod word_laws;
 mod words_of;
 
+pub use chfn_laws::chfn_keeps_parts;
 pub use choice_laws::{ids_are_chosen, ranges_are_found};
 pub use conversion_laws::{conversion_keeps_groups, conversion_keeps_users};
 pub use date_laws::{days_are_counted, days_have_dates};
