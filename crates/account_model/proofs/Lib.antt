@@ -102,3 +102,5 @@ pub mod FieldFacts
 pub mod CountedLaws
 pub mod FreeIds
 pub mod SettingsImage
+pub mod PlanLaws
+mod PlanRows

@@ -134,7 +134,13 @@ faulty text = elim (asked text) [ Err fault ↦ Some fault | Ok request ↦ None
 -- a request with one operand, and no prefix
 abbrev request : Tool → List Given → String → Result Request WordFault
 request tool options operand =
-    Ok (record { tool = tool; prefix = []; options = options; operands = codes operand ∷ [] })
+    Ok (record {
+      tool = tool;
+      prefix = [];
+      options = options;
+      operands = codes operand ∷ [];
+      plan = None;
+    })
 
 -- no prefix is needed
 asks_useradd :

@@ -26,8 +26,13 @@ valued letter value = record { letter = byte letter; value = Some (codes value) 
 
 -- a request with the prefix R
 abbrev request : Tool → List Given → List Word → Result Request WordFault
-request tool options operands = Ok (record
-    { tool = tool; prefix = codes "R"; options = options; operands = operands })
+request tool options operands = Ok (record {
+  tool = tool;
+  prefix = codes "R";
+  options = options;
+  operands = operands;
+  plan = None;
+})
 
 -- one operand
 abbrev one : String → List Word

@@ -71,3 +71,6 @@ pub mod FreeRange
 pub mod Request
 pub mod SeenFiles
 pub mod BatchLines
+pub mod PlanTexts
+pub mod PlanWords
+pub mod PlanLaws

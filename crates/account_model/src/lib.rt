@@ -21,6 +21,7 @@ mod new_user;
 mod option_form;
 mod passwd_laws;
 mod plan_form;
+mod plan_laws;
 mod records;
 mod refusal;
 mod renaming_laws;
@@ -52,6 +53,7 @@ pub use new_user::{Allotment, Plan};
 pub use option_form::{OptionForm, Rule, Test};
 pub use passwd_laws::lock_then_unlock;
 pub use plan_form::PlanForm;
+pub use plan_laws::{plans_answer_alike, plans_have_no_deed};
 pub use records::{
     GREATEST_DAYS, GREATEST_ID, GroupRecord, GshadowRecord, PasswdRecord, ShadowRecord, SubidRecord,
 };
@@ -65,5 +67,5 @@ pub use tool_statuses::{
     BAD_ARGUMENT, BAD_USAGE, GENERAL_FAILURE, PRIMARY_OF_USER, ToolStatuses, USED_ID, USED_NAME,
 };
 pub use word_fault::WordFault;
-pub use word_laws::{lines_read_back, words_have_one_reading};
+pub use word_laws::{commands_have_one_reading, lines_read_back, words_have_one_reading};
 pub use words_of::WordsOf;
