@@ -4,6 +4,7 @@ mod Image
 mod AnswerRows
 mod BatchRows
 mod NamedRows
+mod PlanRows
 pub mod BatchLaws
 pub mod DeedLaws
 pub mod RefusalFacts
@@ -96,3 +97,5 @@ pub mod FieldFacts
 pub mod CountedLaws
 pub mod FreeIds
 pub mod SettingsImage
+pub mod DiffLaws
+pub mod PlanLaws

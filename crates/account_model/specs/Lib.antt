@@ -67,3 +67,7 @@ pub mod FreeRange
 pub mod Request
 pub mod SeenFiles
 pub mod BatchLines
+pub mod PlanChanges
+pub mod PlanDiff
+pub mod PlanJson
+pub mod PlanTexts
