@@ -4,6 +4,7 @@ mod Image
 mod AnswerRows
 mod BatchRows
 mod NamedRows
+mod PlanRows
 pub mod BatchLaws
 pub mod DeedLaws
 pub mod RefusalFacts
@@ -104,3 +105,6 @@ pub mod FreeIds
 pub mod SettingsImage
 pub mod PlanLaws
 mod PlanRows
+pub mod DiffLaws
+pub mod ToldLaws
+mod ToldRows

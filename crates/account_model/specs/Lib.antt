@@ -74,3 +74,6 @@ pub mod BatchLines
 pub mod PlanTexts
 pub mod PlanWords
 pub mod PlanLaws
+pub mod PlanChanges
+pub mod PlanDiff
+pub mod PlanJson

@@ -1,30 +1,23 @@
--- What a plan tells of what its command would change.
-use Rattle.std.specs.Prelude.{ℕ, List, [], ◌∷◌, ◌++◌, codes, decimal, length, Option, flat_map, unwrap_or, if◌then◌else◌}
-use Rattle.acct_text.specs.declared.Tab.{Tab}
+-- What a plan prints: what its command would print, and what that would change.
+use Rattle.std.specs.Prelude.{ℕ, List, ◌++◌, length, flat_map, codes, decimal}
 use Rattle.acct_text.specs.declared.files.Files.{Files}
-use Rattle.acct_text.specs.Bytes.{newline}
-use Rattle.acct_text.specs.Contents.{same_content}
-use Rattle.acct_text.specs.Files.{table_of}
-use Rattle.acct_text.specs.Tables.{table_name, all_tables}
+use Rattle.acct_text.specs.Bytes.{Bytes}
+use Rattle.acct_text.specs.Tables.{table_name}
 use Rattle.account_model.specs.declared.plan_form.PlanForm.{PlanForm}
+use Rattle.account_model.specs.declared.plan_form.PlanForm.TheVariants.{Sizes, Diff, Json}
+use Rattle.account_model.specs.PlanChanges.{TableChange, changes}
+use Rattle.account_model.specs.PlanDiff.{diff_text}
+use Rattle.account_model.specs.PlanJson.{json_told}
 
--- the length of a table's content, 0 for one that doesn't stand
-abbrev pub size_of : Option (List ℕ) → ℕ
-size_of content = length (unwrap_or content [])
+-- the line of a table that changes, with its sizes in bytes before and after
+abbrev pub size_line : TableChange → Bytes
+size_line change = codes "would change " ++ table_name change.table
+    ++ codes " " ++ decimal (length change.old)
+    ++ codes " " ++ decimal (length change.new) ++ codes "\n"
 
--- the line of a table that would change, with its sizes in bytes
-abbrev pub size_line : Tab → Option (List ℕ) → Option (List ℕ) → List ℕ
-size_line tab old new =
-    codes "would change " ++ table_name tab ++ codes " " ++ decimal (size_of old) ++ codes " "
-    ++ decimal (size_of new) ++ newline ∷ []
-
--- the lines of the tables that differ, in their order
-abbrev pub size_lines : Files → Files → List ℕ
-size_lines old new = flat_map (λ tab.
-    if same_content (table_of old tab) (table_of new tab) then []
-    else size_line tab (table_of old tab) (table_of new tab)) all_tables
-
--- what a plan prints, by the files before and after, and by the status, the output and the message of its
--- command
-abbrev pub told : PlanForm → Files → Files → ℕ → List ℕ → List ℕ → List ℕ
-told form old new status output error = output ++ size_lines old new
+-- what a plan prints of a change from old files to new ones, whose command ends with this status,
+-- output and message: sizes and diff stand behind the output, and an object holds all
+abbrev pub told : PlanForm → Files → Files → ℕ → Bytes → Bytes → Bytes
+told Sizes old new status output error = output ++ flat_map size_line (changes old new)
+told Diff old new status output error = output ++ flat_map diff_text (changes old new)
+told Json old new status output error = json_told old new status output error
