@@ -4,7 +4,7 @@ mod Image
 mod AnswerRows
 mod BatchRows
 mod NamedRows
-mod PlanRows
+mod ToldRows
 pub mod BatchLaws
 pub mod DeedLaws
 pub mod RefusalFacts
@@ -107,4 +107,3 @@ pub mod PlanLaws
 mod PlanRows
 pub mod DiffLaws
 pub mod ToldLaws
-mod ToldRows
