@@ -134,7 +134,13 @@ faulty text = elim (asked text) [ Err fault ↦ Some fault | Ok request ↦ None
 -- a request with one operand, and no prefix
 abbrev request : Tool → List Given → String → Result Request WordFault
 request tool options operand =
-    Ok (record { tool = tool; prefix = []; options = options; operands = codes operand ∷ [] })
+    Ok (record {
+      tool = tool;
+      prefix = [];
+      options = options;
+      operands = codes operand ∷ [];
+      plan = None;
+    })
 
 -- no prefix is needed
 asks_useradd :
@@ -172,6 +178,14 @@ asks_empty_value = refl
 -- some tools have no place in a batch
 faulty_chpasswd : faulty "chpasswd -e" ≡ Some UnknownTool
 faulty_chpasswd = refl
+
+-- nor has chgpasswd
+faulty_chgpasswd : faulty "chgpasswd -e" ≡ Some UnknownTool
+faulty_chgpasswd = refl
+
+-- nor groupmems
+faulty_groupmems : faulty "groupmems -g q -p" ≡ Some UnknownTool
+faulty_groupmems = refl
 
 -- nor has pwck
 faulty_pwck : faulty "pwck -r" ≡ Some UnknownTool

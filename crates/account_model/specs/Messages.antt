@@ -5,7 +5,7 @@ use Rattle.account_model.specs.declared.tool.Tool.TheVariants.{Chage, Chfn, Pass
 use Rattle.account_model.specs.declared.refusal.Refusal.{Refusal}
 use Rattle.account_model.specs.declared.refusal.Refusal.TheVariants.{BadName, BadKey, BadValue, UserExists, GroupExists, NoUser, NoGroup, UidInUse, GidInUse, NoFreeUid, NoFreeGid, NoGap, Meets, EmptyHash, PrimaryGroup, NotMember, NoShadow, NoGshadow, BadLine, NoRanges, Multiple}
 use Rattle.account_model.specs.declared.refusal.LineProblem.{LineProblem}
-use Rattle.account_model.specs.declared.refusal.LineProblem.TheVariants.{NoColon, HashColon, UnknownUser, LineEnd}
+use Rattle.account_model.specs.declared.refusal.LineProblem.TheVariants.{NoColon, HashColon, UnknownUser, UnknownGroup, LineEnd}
 use Rattle.acct_text.specs.Bytes.{newline}
 use Rattle.acct_text.specs.Tables.{table_name}
 use Rattle.account_model.specs.Text.{has_byte}
@@ -69,11 +69,12 @@ wanted_form tool letter =
 abbrev pub but_wanted : List ℕ → List ℕ → List ℕ
 but_wanted text form = text ++ codes " (" ++ form ++ codes ")"
 
--- what is wrong with a line of the input of chpasswd
+-- what is wrong with a line of the input of chpasswd and of chgpasswd
 abbrev pub line_problem_text : LineProblem → List ℕ
 line_problem_text NoColon = codes "no colon"
 line_problem_text HashColon = codes "colon in hash"
 line_problem_text (UnknownUser name) = codes "unknown user " ++ name
+line_problem_text (UnknownGroup name) = codes "unknown group " ++ name
 line_problem_text LineEnd = codes "ends in a carriage return"
 
 -- why the tool refuses

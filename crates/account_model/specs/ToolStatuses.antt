@@ -101,7 +101,7 @@ group_statuses = record common_statuses {
   multiple = group_failure;
 }
 
--- gpasswd(1)
+-- gpasswd(1), groupmems(8)
 abbrev pub gpasswd_statuses : ToolStatuses
 gpasswd_statuses = record common_statuses { no_user = bad_argument; no_group = bad_argument }
 

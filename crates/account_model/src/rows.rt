@@ -1,6 +1,6 @@
 // The row of each tool (its manual page).
 use crate::OptionForm::{Flag, ShortFlag, Value};
-use crate::Test::{Alone, NotBoth, OneOf, OnlyWith, SomeOf, SomeOption};
+use crate::Test::{Alone, ExactlyOne, NotBoth, OneOf, OnlyWith, SomeOf, SomeOption};
 use crate::tool_statuses::{
     CHAGE_STATUSES, CHECK_STATUSES, CHFN_STATUSES, COMMON_STATUSES, CONVERSION_STATUSES,
     GETSUBIDS_STATUSES, GPASSWD_STATUSES, GROUP_STATUSES, PASSWD_STATUSES, USER_STATUSES,
@@ -243,6 +243,33 @@ pub(crate) static GPASSWD: ToolRow = ToolRow {
     ..COMMON
 };
 
+pub(crate) static GROUPMEMS: ToolRow = ToolRow {
+    name: "groupmems",
+    options: &[
+        Value(b'a', "add"),
+        Value(b'd', "delete"),
+        Value(b'g', "group"),
+        Flag(b'l', "list"),
+        Flag(b'p', "purge"),
+    ],
+    least: 0,
+    most: 0,
+    rules: &[
+        Rule {
+            text: "-g is needed",
+            test: SomeOf(b"g"),
+        },
+        Rule {
+            text: "exactly one of -a, -d, -l and -p is needed",
+            test: ExactlyOne(b"adlp"),
+        },
+    ],
+    is_for_lines: false,
+    reporting: Reporting::WhereGiven(b'l', &[Tab::Group]),
+    statuses: GPASSWD_STATUSES,
+    ..COMMON
+};
+
 pub(crate) static CHAGE: ToolRow = ToolRow {
     name: "chage",
     options: &[
@@ -268,8 +295,8 @@ pub(crate) static CHAGE: ToolRow = ToolRow {
     ..COMMON
 };
 
-pub(crate) static CHPASSWD: ToolRow = ToolRow {
-    name: "chpasswd",
+// Sets hashes from lines of the input, and has no operand (chpasswd(8), chgpasswd(8)).
+const SETS_HASHES: ToolRow = ToolRow {
     options: &[Flag(b'e', "encrypted")],
     least: 0,
     most: 0,
@@ -282,6 +309,16 @@ pub(crate) static CHPASSWD: ToolRow = ToolRow {
     wrapper_letters: b"c",
     wrapper_names: &["crypt-method"],
     ..COMMON
+};
+
+pub(crate) static CHPASSWD: ToolRow = ToolRow {
+    name: "chpasswd",
+    ..SETS_HASHES
+};
+
+pub(crate) static CHGPASSWD: ToolRow = ToolRow {
+    name: "chgpasswd",
+    ..SETS_HASHES
 };
 
 pub(crate) static PASSWD: ToolRow = ToolRow {

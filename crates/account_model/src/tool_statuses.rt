@@ -104,7 +104,7 @@ pub(crate) const GROUP_STATUSES: ToolStatuses = ToolStatuses {
     ..COMMON_STATUSES
 };
 
-/// gpasswd(1).
+/// gpasswd(1), groupmems(8).
 pub(crate) const GPASSWD_STATUSES: ToolStatuses = ToolStatuses {
     no_user: BAD_ARGUMENT,
     no_group: BAD_ARGUMENT,
