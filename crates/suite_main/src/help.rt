@@ -7,7 +7,9 @@ ghost use Rattle.suite_main.specs.HelpTexts.{helps_with, names_tools};
 
 mod batch;
 mod chage;
+mod chfn;
 mod chpasswd;
+mod chsh;
 mod getsubids;
 mod gpasswd;
 mod groupadd;
@@ -52,6 +54,8 @@ Tools:
   useradd    create a user
   usermod    change a user
   userdel    delete a user
+  chfn       change the parts of a user's comment
+  chsh       change the login shell of a user
   groupadd   create a group
   groupmod   change a group
   groupdel   delete a group
@@ -86,6 +90,8 @@ pub(crate) fn text_of(tool: Tool) -> &'static str
         Tool::Useradd => useradd::text(),
         Tool::Usermod => usermod::text(),
         Tool::Userdel => userdel::text(),
+        Tool::Chfn => chfn::text(),
+        Tool::Chsh => chsh::text(),
         Tool::Groupadd => groupadd::text(),
         Tool::Groupmod => groupmod::text(),
         Tool::Groupdel => groupdel::text(),

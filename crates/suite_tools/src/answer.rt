@@ -23,6 +23,8 @@ use login_defs::Defs;
 use std::alloc::Global;
 use table_edits::{Script, Tables};
 use tool_answers::{Decision, Output, ToolFault};
+use user_changes::chfn::chfn;
+use user_changes::chsh::chsh;
 use user_changes::usermod;
 use user_creation::{useradd, useradd_output};
 use user_removal::{userdel, userdel_output};
@@ -75,6 +77,8 @@ pub(crate) fn answer_of(
             Ok(Answered::Edits(script, passwd_output(alloc, asked, tables)?))
         }
         Tool::Usermod => Ok(quietly(alloc, usermod(alloc, asked, tables, day)?)),
+        Tool::Chfn => Ok(quietly(alloc, chfn(alloc, asked, tables)?)),
+        Tool::Chsh => Ok(quietly(alloc, chsh(alloc, asked, tables)?)),
         Tool::Groupadd => Ok(quietly(alloc, groupadd(alloc, asked, tables, defs)?)),
         Tool::Groupmod => Ok(quietly(alloc, groupmod(alloc, asked, tables)?)),
         Tool::Groupdel => Ok(quietly(alloc, groupdel(alloc, asked, tables)?)),

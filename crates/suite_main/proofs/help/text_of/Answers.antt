@@ -13,6 +13,11 @@ returns-in-Usermod c =
     subst (λ tool. helps_with tool c.text-in-Usermod.result.now ≡ true) (sym c.in-Usermod.is)
     c.text-in-Usermod.ensures
 
+pub returns-in-Chfn : goal.returns-in-Chfn
+returns-in-Chfn c =
+    subst (λ tool. helps_with tool c.text-in-Chfn.result.now ≡ true) (sym c.in-Chfn.is)
+    c.text-in-Chfn.ensures
+
 pub returns-in-Groupadd : goal.returns-in-Groupadd
 returns-in-Groupadd c =
     subst (λ tool. helps_with tool c.text-in-Groupadd.result.now ≡ true) (sym c.in-Groupadd.is)
