@@ -4,6 +4,7 @@ mod Image
 mod AnswerRows
 mod BatchRows
 mod NamedRows
+mod ToldRows
 pub mod BatchLaws
 pub mod DeedLaws
 pub mod RefusalFacts
@@ -41,6 +42,9 @@ mod GroupmemsRows
 mod ChageRows
 mod ChpasswdRows
 mod ChgpasswdRows
+mod ChfnRows
+pub mod ChfnScripts
+mod ChfnLaws
 mod ConversionRows
 mod PasswdRows
 mod PwckRows
@@ -99,3 +103,7 @@ pub mod FieldFacts
 pub mod CountedLaws
 pub mod FreeIds
 pub mod SettingsImage
+pub mod PlanLaws
+mod PlanRows
+pub mod DiffLaws
+pub mod ToldLaws

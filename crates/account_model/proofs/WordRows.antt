@@ -4,7 +4,7 @@ use Rattle.std.specs.Prelude.{◌≡◌, ◌==◌, List, [], ◌∷◌, replicat
 use Rattle.std.specs.List.{slice_split}
 use Rattle.std.specs.Str.{byte}
 use Rattle.account_model.specs.declared.tool.Tool.{Tool}
-use Rattle.account_model.specs.declared.tool.Tool.TheVariants.{Useradd, Usermod, Userdel, Groupadd, Groupmod, Groupdel, Gpasswd, Groupmems, Chage, Chpasswd, Chgpasswd, Pwck, Grpck, Getsubids, Batch}
+use Rattle.account_model.specs.declared.tool.Tool.TheVariants.{Useradd, Usermod, Userdel, Chfn, Groupadd, Groupmod, Groupdel, Gpasswd, Groupmems, Chage, Chpasswd, Chgpasswd, Pwck, Grpck, Getsubids, Batch}
 use Rattle.account_model.specs.declared.word_fault.WordFault.{WordFault}
 use Rattle.account_model.specs.declared.word_fault.WordFault.TheVariants.{WordLimit, NoTool, UnknownTool, UnknownOption, MissingValue, UnexpectedValue, TooMany, NoPrefix, EmptyPrefix, TooFew, Clash}
 use Rattle.account_model.specs.Options.{Word}
@@ -26,8 +26,13 @@ valued letter value = record { letter = byte letter; value = Some (codes value) 
 
 -- a request with the prefix R
 abbrev request : Tool → List Given → List Word → Result Request WordFault
-request tool options operands = Ok (record
-    { tool = tool; prefix = codes "R"; options = options; operands = operands })
+request tool options operands = Ok (record {
+  tool = tool;
+  prefix = codes "R";
+  options = options;
+  operands = operands;
+  plan = None;
+})
 
 -- one operand
 abbrev one : String → List Word
@@ -99,6 +104,12 @@ asks_usermod_2 = refl
 asks_chage :
     request_of (words_of "chage -P R -l bob") ≡ request Chage (flagged "l" ∷ []) (one "bob")
 asks_chage = refl
+
+-- `-h` of chfn takes a value
+asks_chfn :
+    request_of (words_of "chfn -P R -h5 --other a,b=c bob")
+    ≡ request Chfn (valued "h" "5" ∷ valued "o" "a,b=c" ∷ []) (one "bob")
+asks_chfn = refl
 
 -- no operands
 asks_chpasswd : request_of (words_of "chpasswd -P R -e") ≡ request Chpasswd (flagged "e" ∷ []) []
@@ -348,6 +359,14 @@ faulty_passwd_3 = refl
 -- a conversion has no operand
 faulty_pwconv : fault (words_of "pwconv -P R bob") ≡ Some (TooMany 3)
 faulty_pwconv = refl
+
+-- the rule of chfn
+faulty_chfn : fault (words_of "chfn -P R bob") ≡ Some (Clash 1)
+faulty_chfn = refl
+
+-- the rule of chsh
+faulty_chsh : fault (words_of "chsh -P R bob") ≡ Some (Clash 1)
+faulty_chsh = refl
 
 -- the rule of chpasswd
 faulty_chpasswd : fault (words_of "chpasswd -P R") ≡ Some (Clash 1)

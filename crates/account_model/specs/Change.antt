@@ -1,7 +1,7 @@
 -- What each tool does: one function over all of them.
 use Rattle.std.specs.Prelude.{ℕ, List, []}
 use Rattle.account_model.specs.declared.tool.Tool.{Tool}
-use Rattle.account_model.specs.declared.tool.Tool.TheVariants.{Useradd, Usermod, Userdel, Groupadd, Groupmod, Groupdel, Gpasswd, Groupmems, Chage, Chpasswd, Chgpasswd, Passwd, Pwconv, Pwunconv, Grpconv, Grpunconv, Pwck, Grpck, Getsubids, Batch}
+use Rattle.account_model.specs.declared.tool.Tool.TheVariants.{Useradd, Usermod, Userdel, Chfn, Chsh, Groupadd, Groupmod, Groupdel, Gpasswd, Groupmems, Chage, Chpasswd, Chgpasswd, Passwd, Pwconv, Pwunconv, Grpconv, Grpunconv, Pwck, Grpck, Getsubids, Batch}
 use Rattle.acct_text.specs.declared.files.Files.{Files}
 use Rattle.account_model.specs.Settings.{Setting}
 use Rattle.account_model.specs.Request.{Request}
@@ -10,6 +10,8 @@ use Rattle.account_model.specs.Action.{Action, changes}
 use Rattle.account_model.specs.Useradd.{useradd}
 use Rattle.account_model.specs.Usermod.{usermod}
 use Rattle.account_model.specs.Userdel.{userdel}
+use Rattle.account_model.specs.Chfn.{chfn}
+use Rattle.account_model.specs.Chsh.{chsh}
 use Rattle.account_model.specs.Groupadd.{groupadd}
 use Rattle.account_model.specs.Groupmod.{groupmod}
 use Rattle.account_model.specs.Groupdel.{groupdel}
@@ -30,6 +32,8 @@ abbrev pub action_by : Tool → Request → List ℕ → ℕ → Files → List 
 action_by Useradd request input day files settings = useradd request files settings day
 action_by Usermod request input day files settings = usermod request files day
 action_by Userdel request input day files settings = userdel request files settings
+action_by Chfn request input day files settings = chfn request files
+action_by Chsh request input day files settings = chsh request files
 action_by Groupadd request input day files settings = groupadd request files settings
 action_by Groupmod request input day files settings = groupmod request files
 action_by Groupdel request input day files settings = groupdel request files

@@ -1,7 +1,7 @@
 -- The texts of refusals, as a tool prints them on the error stream. They are this profile's own.
 use Rattle.std.specs.Prelude.{ℕ, List, [], ◌∷◌, ◌++◌, codes, decimal, flat_map, Option, None, Some, if◌then◌else◌}
 use Rattle.account_model.specs.declared.tool.Tool.{Tool}
-use Rattle.account_model.specs.declared.tool.Tool.TheVariants.{Chage, Passwd}
+use Rattle.account_model.specs.declared.tool.Tool.TheVariants.{Chage, Chfn, Passwd}
 use Rattle.account_model.specs.declared.refusal.Refusal.{Refusal}
 use Rattle.account_model.specs.declared.refusal.Refusal.TheVariants.{BadName, BadKey, BadValue, UserExists, GroupExists, NoUser, NoGroup, UidInUse, GidInUse, NoFreeUid, NoFreeGid, NoGap, Meets, EmptyHash, PrimaryGroup, NotMember, NoShadow, NoGshadow, BadLine, NoRanges, Multiple}
 use Rattle.account_model.specs.declared.refusal.LineProblem.{LineProblem}
@@ -25,6 +25,10 @@ path_form = codes "a path that begins with /, no : and no newline"
 abbrev pub field_form : List ℕ
 field_form = codes "no : and no newline"
 
+-- of a part of a comment
+abbrev pub part_form : List ℕ
+part_form = codes "no : , = and no newline"
+
 -- of a UID and a GID
 abbrev pub id_form : List ℕ
 id_form = codes "a number from 0 to 4294967294"
@@ -45,10 +49,11 @@ days_form = codes "-1 or a number from 0 to 2147483647"
 abbrev pub date_form : List ℕ
 date_form = codes "a date as 2026-01-31, days since 1970-01-01, or -1"
 
--- the form of the value of an option by its letter, which has one meaning for all tools but chage and
--- passwd
+-- the form of the value of an option by its letter, which has one meaning for all tools but chage,
+-- chfn and passwd
 abbrev pub wanted_form : Tool → ℕ → List ℕ
 wanted_form Chage letter = if has_byte letter (codes "dE") then date_form else days_form
+wanted_form Chfn letter = if has_byte letter (codes "o") then field_form else part_form
 wanted_form Passwd letter = days_form
 wanted_form tool letter =
     if has_byte letter (codes "bds") then path_form else

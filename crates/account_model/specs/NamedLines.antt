@@ -11,7 +11,7 @@ use Rattle.account_model.specs.declared.records.GroupRecord.{GroupRecord}
 use Rattle.account_model.specs.declared.records.GshadowRecord.{GshadowRecord}
 use Rattle.account_model.specs.declared.records.SubidRecord.{SubidRecord}
 use Rattle.account_model.specs.declared.tool.Tool.{Tool}
-use Rattle.account_model.specs.declared.tool.Tool.TheVariants.{Useradd, Usermod, Userdel, Groupadd, Groupmod, Groupdel, Gpasswd, Groupmems, Chage, Chpasswd, Chgpasswd, Passwd, Pwconv, Pwunconv, Grpconv, Grpunconv}
+use Rattle.account_model.specs.declared.tool.Tool.TheVariants.{Useradd, Usermod, Userdel, Chfn, Chsh, Groupadd, Groupmod, Groupdel, Gpasswd, Groupmems, Chage, Chpasswd, Chgpasswd, Passwd, Pwconv, Pwunconv, Grpconv, Grpunconv}
 use Rattle.account_model.specs.Text.{is_listed}
 use Rattle.account_model.specs.Format.{Format}
 use Rattle.account_model.specs.Edits.{Edit, touches}
@@ -101,6 +101,8 @@ named_by Userdel request input files = record names_nothing {
   groups = operand request ∷ [];
   owners = owner_fields (operand request) (own_uid (operand request) files);
 }
+named_by Chfn request input files = record names_nothing { users = operand request ∷ [] }
+named_by Chsh request input files = record names_nothing { users = operand request ∷ [] }
 named_by Groupadd request input files =
     record names_nothing { groups = operand request ∷ [] }
 named_by Groupmod request input files = record names_nothing {

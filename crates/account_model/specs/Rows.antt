@@ -5,10 +5,10 @@ use Rattle.std.specs.Str.{byte}
 use Rattle.acct_text.specs.declared.Tab.{Tab}
 use Rattle.acct_text.specs.declared.Tab.TheVariants.{Passwd, Shadow, Group, Gshadow, Subuid, Subgid}
 use Rattle.account_model.specs.declared.tool.Tool.{Tool}
-use Rattle.account_model.specs.declared.tool.Tool.TheVariants.{Useradd, Usermod, Userdel, Groupadd, Groupmod, Groupdel, Gpasswd, Groupmems, Chage, Chpasswd, Chgpasswd, Passwd as ChangePasswd, Pwconv, Pwunconv, Grpconv, Grpunconv, Pwck, Grpck, Getsubids, Batch}
+use Rattle.account_model.specs.declared.tool.Tool.TheVariants.{Useradd, Usermod, Userdel, Chfn, Chsh, Groupadd, Groupmod, Groupdel, Gpasswd, Groupmems, Chage, Chpasswd, Chgpasswd, Passwd as ChangePasswd, Pwconv, Pwunconv, Grpconv, Grpunconv, Pwck, Grpck, Getsubids, Batch}
 use Rattle.account_model.specs.Options.{Word, OptionForm, Rule, alone, exactly_one, flag, not_both, one_of, only_with, rule, short_flag, some_of, some_option, with_value}
 use Rattle.account_model.specs.declared.tool_statuses.ToolStatuses.{ToolStatuses}
-use Rattle.account_model.specs.ToolStatuses.{chage_statuses, check_statuses, common_statuses, conversion_statuses, getsubids_statuses, gpasswd_statuses, group_statuses, passwd_statuses, user_statuses}
+use Rattle.account_model.specs.ToolStatuses.{chage_statuses, check_statuses, chfn_statuses, common_statuses, conversion_statuses, getsubids_statuses, gpasswd_statuses, group_statuses, passwd_statuses, user_statuses}
 
 -- when a command of the tool only shows what stands, and the tables that it then reads
 pub data Reporting : Type 0 where
@@ -164,6 +164,25 @@ row_of Userdel = record common_row {
   statuses = user_statuses;
   wrapper_letters = codes "r";
   wrapper_names = codes "remove" ∷ [];
+}
+row_of Chfn = record common_row {
+  name = codes "chfn";
+  options = with_value "f" "full-name"
+      ∷ with_value "r" "room"
+      ∷ with_value "w" "work-phone"
+      ∷ with_value "h" "home-phone"
+      ∷ with_value "o" "other"
+      ∷ [];
+  rules = wants_option ∷ [];
+  is_for_lines = false;
+  statuses = chfn_statuses;
+}
+row_of Chsh = record common_row {
+  name = codes "chsh";
+  options = with_value "s" "shell" ∷ [];
+  rules = rule "-s is needed" (some_of (codes "s")) ∷ [];
+  is_for_lines = false;
+  statuses = chfn_statuses;
 }
 row_of Groupadd = record common_row {
   name = codes "groupadd";

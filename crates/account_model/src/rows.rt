@@ -2,8 +2,8 @@
 use crate::OptionForm::{Flag, ShortFlag, Value};
 use crate::Test::{Alone, ExactlyOne, NotBoth, OneOf, OnlyWith, SomeOf, SomeOption};
 use crate::tool_statuses::{
-    CHAGE_STATUSES, CHECK_STATUSES, COMMON_STATUSES, CONVERSION_STATUSES, GETSUBIDS_STATUSES,
-    GPASSWD_STATUSES, GROUP_STATUSES, PASSWD_STATUSES, USER_STATUSES,
+    CHAGE_STATUSES, CHECK_STATUSES, CHFN_STATUSES, COMMON_STATUSES, CONVERSION_STATUSES,
+    GETSUBIDS_STATUSES, GPASSWD_STATUSES, GROUP_STATUSES, PASSWD_STATUSES, USER_STATUSES,
 };
 use crate::{Reporting, Rule, ToolRow};
 use acct_text::Tab;
@@ -144,6 +144,34 @@ pub(crate) static USERDEL: ToolRow = ToolRow {
     statuses: USER_STATUSES,
     wrapper_letters: b"r",
     wrapper_names: &["remove"],
+    ..COMMON
+};
+
+// The options stand in the order of the parts of a comment.
+pub(crate) static CHFN: ToolRow = ToolRow {
+    name: "chfn",
+    options: &[
+        Value(b'f', "full-name"),
+        Value(b'r', "room"),
+        Value(b'w', "work-phone"),
+        Value(b'h', "home-phone"),
+        Value(b'o', "other"),
+    ],
+    rules: &[WANTS_OPTION],
+    is_for_lines: false,
+    statuses: CHFN_STATUSES,
+    ..COMMON
+};
+
+pub(crate) static CHSH: ToolRow = ToolRow {
+    name: "chsh",
+    options: &[Value(b's', "shell")],
+    rules: &[Rule {
+        text: "-s is needed",
+        test: SomeOf(b"s"),
+    }],
+    is_for_lines: false,
+    statuses: CHFN_STATUSES,
     ..COMMON
 };
 

@@ -15,6 +15,10 @@ pub enum Tool {
     Usermod,
     /// Removes a user (userdel(8)).
     Userdel,
+    /// Changes the parts of a user's comment (chfn(1)).
+    Chfn,
+    /// Changes a user's shell (chsh(1)).
+    Chsh,
     /// Adds a group (groupadd(8)).
     Groupadd,
     /// Changes a group (groupmod(8)).
@@ -53,13 +57,15 @@ pub enum Tool {
 
 impl Tool {
     /// The tools in the order of the enum.
-    pub fn all() -> [Tool; 20]
+    pub fn all() -> [Tool; 22]
         ensures { result ≡ tools }
     {
         [
             Tool::Useradd,
             Tool::Usermod,
             Tool::Userdel,
+            Tool::Chfn,
+            Tool::Chsh,
             Tool::Groupadd,
             Tool::Groupmod,
             Tool::Groupdel,
@@ -88,6 +94,8 @@ impl Tool {
             Tool::Useradd => &rows::USERADD,
             Tool::Usermod => &rows::USERMOD,
             Tool::Userdel => &rows::USERDEL,
+            Tool::Chfn => &rows::CHFN,
+            Tool::Chsh => &rows::CHSH,
             Tool::Groupadd => &rows::GROUPADD,
             Tool::Groupmod => &rows::GROUPMOD,
             Tool::Groupdel => &rows::GROUPDEL,

@@ -5,7 +5,7 @@ ghost use Rattle.account_model.specs.Action.{with_flag};
 ghost use Rattle.account_model.specs.Groupmems.{asked_group, groupmems, groupmems_refusals, groupmems_script, member_lines};
 ghost use Rattle.account_model.specs.Members.{each_members};
 ghost use Rattle.account_model.specs.Text.{first_some};
-ghost use Rattle.table_edits.specs.Acting.{ActsBy, IsReportOf};
+ghost use Rattle.table_edits.specs.Acting.{ActsBy, IsOutputOf};
 ghost use Rattle.table_edits.specs.Additions.{HasAlso};
 ghost use Rattle.table_edits.specs.SeenScript.{seen_script};
 ghost use Rattle.table_edits.specs.Stopping.{StopsBy};
@@ -16,7 +16,8 @@ use acct_text::{Bytes, Names};
 use command_values::{Asked, ToolFault};
 use line_edits::{GroupAct, GshadowAct};
 use std::alloc::{AllocError, Global};
-use table_edits::{Report, Script, Tables};
+use table_edits::{Script, Tables};
+use tool_answers::Output;
 
 /// The script that sets the members of the group; `-l` changes nothing.
 ///
@@ -33,17 +34,13 @@ pub fn groupmems(alloc: Global, asked: &Asked, tables: &Tables) -> Result<Script
 }
 
 /// What groupmems prints: with `-l` the members of the group, and else nothing.
-pub fn groupmems_report(alloc: Global, asked: &Asked, tables: &Tables) -> Result<Report, AllocError>
-    ensures { IfOk result (IsReportOf (groupmems asked.now tables.now)) }
+pub fn groupmems_output(alloc: Global, asked: &Asked, tables: &Tables) -> Result<Output, AllocError>
+    ensures { IfOk result (IsOutputOf asked.now.tool (groupmems asked.now tables.now)) }
 {
     if !asked.has(b'l') {
-        return Ok(Report::silent(alloc));
+        return Ok(Output::silent(alloc));
     }
-    Ok(Report {
-        status: 0,
-        out: member_lines(alloc, tables, group_of(asked))?,
-        notices: Names::new(alloc),
-    })
+    Ok(Output::shown(alloc, member_lines(alloc, tables, group_of(asked))?))
 }
 
 // The group of `-g`.

@@ -41,8 +41,8 @@ pub fn decide(
     let tables = tables_for(alloc, asked, text, files)?;
     tools_are_written();
     match answer_of(alloc, asked, text, files, &Tables::of(&tables), defs, day) {
-        Ok(Answered::Edits(script, report)) => {
-            decide_edits(alloc, asked.tool(), files, tables, &script, report)
+        Ok(Answered::Edits(script, output)) => {
+            decide_edits(alloc, asked.tool(), files, tables, &script, output)
         }
         Ok(Answered::Decides(decision)) => Ok(decision),
         Ok(Answered::Lines) => {

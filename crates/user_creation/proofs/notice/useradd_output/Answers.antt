@@ -4,7 +4,7 @@ use Rattle.account_model.specs.NewAccount.{settings_for}
 use Rattle.account_model.specs.Useradd.{new_shadow, new_uid, plan_of, useradd_notices}
 use Rattle.user_creation.proofs.UseraddLemmas.{adds-planned}
 use Rattle.user_creation.specs.Added.{added_uid}
-use Rattle.user_creation.proofs.notice.useradd_report.Goals as goal
+use Rattle.user_creation.proofs.notice.useradd_output.Goals as goal
 
 pub returns : goal.returns
 returns c = λ settings day is.

@@ -1,7 +1,7 @@
 use Rattle.std.proofs.Common.{sym, ap, ◌∙◌}
 use Rattle.account_model.specs.Rows.{ToolRow}
 use Rattle.account_model.specs.SeenRows.{reporting_of}
-use Rattle.option_words.proofs.parsed.Parsed.is_report.Goals as goal
+use Rattle.option_words.proofs.parsed.Parsed.reports.Goals as goal
 
 pub returns-in-WhereGiven : goal.returns-in-WhereGiven
 returns-in-WhereGiven c =
