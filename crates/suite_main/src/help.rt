@@ -8,12 +8,14 @@ ghost use Rattle.suite_main.specs.HelpTexts.{helps_with, names_tools};
 mod batch;
 mod chage;
 mod chfn;
+mod chgpasswd;
 mod chpasswd;
 mod chsh;
 mod getsubids;
 mod gpasswd;
 mod groupadd;
 mod groupdel;
+mod groupmems;
 mod groupmod;
 mod grpck;
 mod grpconv;
@@ -60,8 +62,10 @@ Tools:
   groupmod   change a group
   groupdel   delete a group
   gpasswd    change the members or the password of a group
+  groupmems  change or list the members of a group
   chage      change or list the aging of a password
   chpasswd   set the passwords of users
+  chgpasswd  set the passwords of groups
   passwd     lock, unlock, age or show the password of a user
   pwconv     move the passwords of users to shadow
   pwunconv   move the passwords of users to passwd
@@ -96,8 +100,10 @@ pub(crate) fn text_of(tool: Tool) -> &'static str
         Tool::Groupmod => groupmod::text(),
         Tool::Groupdel => groupdel::text(),
         Tool::Gpasswd => gpasswd::text(),
+        Tool::Groupmems => groupmems::text(),
         Tool::Chage => chage::text(),
         Tool::Chpasswd => chpasswd::text(),
+        Tool::Chgpasswd => chgpasswd::text(),
         Tool::Passwd => passwd::text(),
         Tool::Pwconv => pwconv::text(),
         Tool::Pwunconv => pwunconv::text(),

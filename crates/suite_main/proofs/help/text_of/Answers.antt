@@ -33,6 +33,11 @@ returns-in-Gpasswd c =
     subst (λ tool. helps_with tool c.text-in-Gpasswd.result.now ≡ true) (sym c.in-Gpasswd.is)
     c.text-in-Gpasswd.ensures
 
+pub returns-in-Groupmems : goal.returns-in-Groupmems
+returns-in-Groupmems c =
+    subst (λ tool. helps_with tool c.text-in-Groupmems.result.now ≡ true) (sym c.in-Groupmems.is)
+    c.text-in-Groupmems.ensures
+
 pub returns-in-Chage : goal.returns-in-Chage
 returns-in-Chage c =
     subst (λ tool. helps_with tool c.text-in-Chage.result.now ≡ true) (sym c.in-Chage.is)
