@@ -5,12 +5,12 @@ use Rattle.account_model.specs.Hashes.{demand_shadow, each_user_hash}
 use Rattle.account_model.specs.Tables.{followed_by}
 use Rattle.table_edits.specs.SeenScript.{seen_script}
 use Rattle.aging_commands.proofs.ScriptLemmas.{three-also}
-use Rattle.aging_commands.proofs.chpasswd.set_hash.Goals as goal
+use Rattle.aging_commands.proofs.chpasswd.set_user_hash.Goals as goal
 
 pub returns : goal.returns
 returns c =
-    let name = c.args.hash.now.name.now in
-    let hash = c.args.hash.now.hash.now in
+    let name = c.args.new.now.name.now in
+    let hash = c.args.new.now.hash.now in
     let files = c.args.tables.now in
     let demanded = seen_script c.demand_shadow.new.script in
     on_ok_weaker c.change_shadow.result
