@@ -142,11 +142,12 @@ own-options tool (option ∷ options) all = elim (cases_Bool (is_prefix tool opt
   )
 ]
 
--- what words ask for keeps the row of its tool
+-- what words ask for keeps the row of its tool, planned or not
 pub asks-keeps_row :
     (words : List Word) (request : Request) → Asks words request → KeepsRow request
-asks-keeps_row words request asks =
+asks-keeps_row words request planned =
     let tool = request.tool in
+    let asks = planned.command in
     let all =
     spelled-of_table (option_forms tool) (letters-apart tool) asks.arguments asks.given
     request.operands asks.spelled in
