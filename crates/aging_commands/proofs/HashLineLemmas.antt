@@ -128,7 +128,8 @@ module _ (whose : HashesOf) (input : List ℕ) (places : List (ℕ × ℕ)) (ind
       → index < length places
       → first ≡ bad_text_from whose (index + 1) files (map (part_of input) (drop index places))
       → line_refusal whose files (index + 1) text_at ≡ None
-      → first ≡ bad_text_from whose (index + 1 + 1) files (map (part_of input) (drop (index + 1) places))
+      → first ≡ bad_text_from whose (index + 1 + 1) files
+      (map (part_of input) (drop (index + 1) places))
   good-more files first inside is good =
       is ∙ ap (bad_text_from whose (index + 1) files) (texts-from inside)
       ∙ goes-on whose (index + 1) files text_at (map (part_of input) (drop (index + 1) places)) good
@@ -145,7 +146,8 @@ module _ (whose : HashesOf) (input : List ℕ) (places : List (ℕ × ℕ)) (ind
   stops-more files first Memory inside is bad = tt
   stops-more files first (Refused refusal) inside is bad =
       is ∙ ap (bad_text_from whose (index + 1) files) (texts-from inside)
-      ∙ stops whose (index + 1) files text_at (map (part_of input) (drop (index + 1) places)) refusal bad
+      ∙ stops whose (index + 1) files text_at (map (part_of input) (drop (index + 1) places))
+      refusal bad
 
 -- ---- What the lines do
 
@@ -156,7 +158,8 @@ scripts-seen :
     ≡ map (hash_script whose files day) (map seen_line hashes)
 scripts-seen whose files day [] = refl
 scripts-seen whose files day (hash ∷ hashes) =
-    ap (λ scripts. hash_script whose files day (seen_line hash) ∷ scripts) (scripts-seen whose files day hashes)
+    ap (λ scripts. hash_script whose files day (seen_line hash) ∷ scripts)
+    (scripts-seen whose files day hashes)
 
 -- by the texts
 scripts-texts :

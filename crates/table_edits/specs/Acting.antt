@@ -22,7 +22,7 @@ ActsBy action (Err (Refused refusal)) = first_some action.refusals ≡ Some refu
 ActsBy action (Err Memory) = ⊤
 
 -- the output has what the action of the tool prints, with its status
-pub record IsOutputOf (tool : Tool) (action : Action) (output : Output) : Type 0 where
-  pub status : output.status ≡ action.status
-  pub output : output.out ≡ action.output
-  pub notices : output.err ≡ messages tool action.notices
+pub record IsOutputOf (tool : Tool) (action : Action) (printed : Output) : Type 0 where
+  pub status : printed.status ≡ action.status
+  pub output : printed.out ≡ action.output
+  pub notices : printed.err ≡ messages tool action.notices

@@ -7,9 +7,10 @@ use Rattle.aging_commands.proofs.chpasswd.set_hashes.Goals as goal
 pub returns : goal.returns
 returns c =
     let lines = lines_of c.args.input.now in
+    let hashes = c.deref.result.now in
     record {
       unrefused = rw (c.in_ok-hashes.ensures.refused) refl;
       edits = c.in_ok-new_hashes.ensures {u = tt}
-          ∙ ap in_order (scripts-read c.args.whose c.args.tables.now c.args.day c.deref.result.now lines
+          ∙ ap in_order (scripts-read c.args.whose c.args.tables.now c.args.day hashes lines
           (rw (c.deref.ensures.value) c.in_ok-hashes.ensures.read));
     }
