@@ -1,4 +1,4 @@
--- chage and chpasswd are lawful: `chage-lawful`, `chpasswd-lawful`. Way: a date of four digits of the year is less than the greatest day; the hash of a line of the input has no `:`, as
+-- chage, chpasswd and chgpasswd are lawful: `chage-lawful`, `chpasswd-lawful`, `chgpasswd-lawful`. Way: a date of four digits of the year is less than the greatest day; the hash of a line of the input has no `:`, as
 -- the line isn't refused, and no newline, as it is part of a line.
 use Rattle.std.proofs.Common.{◌≡◌, zero, suc, ℕ, ◌+◌, ◌-◌, ◌*◌, ◌<◌, ◌≤◌, ◌^◌, Bool, true, false, ◌&&◌, not, Ok, Err, List, [], ◌∷◌, length, map, refl, sym, ◌∙◌, subst, arith, inl, inr, true≢false}
 use Rattle.std.specs.Prelude.{Option, Some, None, ◌==◌, codes, bytes_eq, nat_le, nat_lt, option_map, if◌then◌else◌, drop, Result}
@@ -14,8 +14,10 @@ use Rattle.acct_text.specs.Numbers.{is_digits, number_within}
 use Rattle.acct_text.proofs.LinesLaws.{lines_of-are}
 use Rattle.acct_text.proofs.NumberLaws.{some-inj, number-is, is_digits-numeral}
 use Rattle.account_model.specs.declared.records.ShadowRecord.{ShadowRecord}
+use Rattle.account_model.specs.declared.hashes_of.HashesOf.{HashesOf}
+use Rattle.account_model.specs.declared.hashes_of.HashesOf.TheVariants.{Users, Groups}
 use Rattle.account_model.specs.declared.refusal.LineProblem.{LineProblem}
-use Rattle.account_model.specs.declared.refusal.LineProblem.TheVariants.{NoColon, HashColon, UnknownUser, LineEnd}
+use Rattle.account_model.specs.declared.refusal.LineProblem.TheVariants.{NoColon, HashColon, LineEnd}
 use Rattle.account_model.specs.declared.refusal.Refusal.{Refusal}
 use Rattle.account_model.specs.declared.refusal.Refusal.TheVariants.{BadLine}
 use Rattle.account_model.specs.Text.{hyphen, has_byte, first_some, is_listed}
@@ -28,22 +30,22 @@ use Rattle.account_model.specs.Tables.{no_edits}
 use Rattle.account_model.specs.Dates.{Date, DayFault, is_leap_year, no_day_shape, no_such_day, day_out_of_range, is_date, day_of, days_of_years, days_in_year, are_digits, written_date, day_of_written, read_date_pieces, read_day_number, read_day}
 use Rattle.account_model.specs.Values.{days_value, date_value}
 use Rattle.account_model.specs.Hashes.{demand_shadow, each_user_hash}
-use Rattle.account_model.specs.Users.{has_user, aging_of}
+use Rattle.account_model.specs.Users.{aging_of}
 use Rattle.account_model.specs.Request.{Request, has_option, operand}
 use Rattle.account_model.specs.Action.{changes, reports}
 use Rattle.account_model.specs.Chage.{with_aging, chage_refusals, chage_script, aging_report}
-use Rattle.account_model.specs.Chpasswd.{line_name, line_hash, line_problem, bad_line_from, set_last_change, set_hash, line_script}
+use Rattle.account_model.specs.Chpasswd.{line_name, line_hash, names_in, has_account, unknown, line_problem, bad_line_from, set_last_change, set_user_hash, set_hash, line_script, set_hashes}
 use Rattle.account_model.proofs.DatesLaws.{date_parts, within_year}
 use Rattle.account_model.proofs.DeedLaws.{first-none}
 use Rattle.account_model.proofs.FieldFacts.{lacks-byte}
 use Rattle.account_model.proofs.RefusalFacts.{field-kept}
 use Rattle.account_model.proofs.ComposedScripts.{all-hold}
-use Rattle.account_model.proofs.LawfulParts.{demand-lawful, hash-lawful, shadow-lawful}
+use Rattle.account_model.proofs.LawfulParts.{demand-lawful, group-hash-lawful, hash-lawful, shadow-lawful}
 use Rattle.account_model.proofs.LawfulScripts.{IsLawful, lawful-composed}
 use Rattle.account_model.proofs.LawfulTools.{IsPlain, LawfulTool, by-choice, quiet-act}
 use Rattle.account_model.proofs.NamedLaws.{not-others, not-this}
 use Rattle.account_model.proofs.NamedParts.{first-has}
-use Rattle.account_model.specs.declared.tool.Tool.TheVariants.{Chage, Chpasswd}
+use Rattle.account_model.specs.declared.tool.Tool.TheVariants.{Chage, Chpasswd, Chgpasswd}
 use Rattle.account_model.specs.NamedLines.{Named, named_by}
 
 -- ---- Numbers of days and dates
@@ -227,7 +229,7 @@ chage-lawful request input day files settings =
       line = λ may. refl;
     }
 
--- ---- chpasswd
+-- ---- chpasswd and chgpasswd
 
 -- a text without its first bytes lacks what it lacks
 pub lacks-drop : (byte count : ℕ) (text : List ℕ) → Lacks byte text → Lacks byte (drop count text)
@@ -237,26 +239,27 @@ lacks-drop byte (suc count) (first ∷ rest) lacks = lacks-drop byte count rest 
 
 -- a hash that no problem of the line names has no `:`
 no-colon-by :
-    (files : Files) (text : List ℕ) (colon_there hash_colon user_there returns : Bool)
+    (problem : LineProblem) (text : List ℕ) (colon_there hash_colon is_there returns : Bool)
     → has_byte colon (line_hash text) ≡ hash_colon
     → (if not colon_there then Some NoColon else
     (if hash_colon then Some HashColon else
-    (if not user_there then Some (UnknownUser (line_name text)) else
+    (if not is_there then Some problem else
     (if returns then Some LineEnd else None)))) ≡ None
     → Lacks colon (line_hash text)
-no-colon-by files text false hash_colon user_there returns is none = cc
-no-colon-by files text true true user_there returns is none = cc
-no-colon-by files text true false user_there returns is none = lacks-byte colon (line_hash text) is
+no-colon-by problem text false hash_colon is_there returns is none = cc
+no-colon-by problem text true true is_there returns is none = cc
+no-colon-by problem text true false is_there returns is none = lacks-byte colon (line_hash text) is
 
 -- the hash of a line without a problem can stand in a field
 hash-field :
-    (files : Files) (text : List ℕ)
+    (whose : HashesOf) (files : Files) (text : List ℕ)
     → Lacks newline text
-    → line_problem files text ≡ None
+    → line_problem whose files text ≡ None
     → IsField (line_hash text)
-hash-field files text lacks none = record {
-  no_colon = no-colon-by files text (has_byte colon text) (has_byte colon (line_hash text))
-      (has_user (line_name text) files) (ends_in_return text) refl none;
+hash-field whose files text lacks none = record {
+  no_colon = no-colon-by (unknown whose (line_name text)) text (has_byte colon text)
+      (has_byte colon (line_hash text)) (has_account whose (line_name text) files)
+      (ends_in_return text) refl none;
   no_newline = lacks-drop newline (position_or_len (λ b. b == colon) text + 1) text lacks;
 }
 
@@ -278,13 +281,13 @@ last-change-lawful {day} named name has = shadow-lawful named name has
       rest = is.rest;
     })
 
--- what a line does
-set-hash-lawful :
+-- what a line does for a user
+user-hash-lawful :
     {day : ℕ} (named : Named) (name hash : List ℕ) (files : Files)
     → ((other : List ℕ) → is_listed other named.users ≡ false → bytes_eq other name ≡ false)
     → IsField hash
-    → IsLawful day false false named (set_hash name hash files day)
-set-hash-lawful {day} named name hash files has is = all-hold (lawful-composed named)
+    → IsLawful day false false named (set_user_hash name hash files day)
+user-hash-lawful {day} named name hash files has is = all-hold (lawful-composed named)
     (demand_shadow name files ∷ each_user_hash name (λ old. hash) files
     ∷ set_last_change name day ∷ []) (
       demand-lawful named name has files,
@@ -294,44 +297,75 @@ set-hash-lawful {day} named name hash files has is = all-hold (lawful-composed n
       ),
     )
 
+-- the users that are named, or the groups
+abbrev accounts_of : HashesOf → Named → List (List ℕ)
+accounts_of Users named = named.users
+accounts_of Groups named = named.groups
+
+-- what a line does
+set-hash-lawful :
+    (whose : HashesOf) (day : ℕ) (named : Named) (name hash : List ℕ) (files : Files)
+    → ((other : List ℕ) → is_listed other (accounts_of whose named) ≡ false
+    → bytes_eq other name ≡ false)
+    → IsField hash
+    → IsLawful day false false named (set_hash whose name hash files day)
+set-hash-lawful Users day named name hash files has is = user-hash-lawful named name hash files has is
+set-hash-lawful Groups day named name hash files has is = group-hash-lawful named name has hash files is
+
 -- the first line, and those behind it, have no problem
 first-good :
-    (number : ℕ) (files : Files) (line : Line) (lines : List Line) (problem : Option LineProblem)
-    → line_problem files line.text ≡ problem
+    (whose : HashesOf) (number : ℕ) (files : Files) (line : Line) (lines : List Line)
+    (problem : Option LineProblem)
+    → line_problem whose files line.text ≡ problem
     → elim problem as (λ p. Option Refusal) [
       | Some found ↦ Some (BadLine number found)
-      | None ↦ bad_line_from (suc number) files lines
+      | None ↦ bad_line_from whose (suc number) files lines
     ] ≡ None
-    → (line_problem files line.text ≡ None) × (bad_line_from (suc number) files lines ≡ None)
-first-good number files line lines (Some found) is none = cc
-first-good number files line lines None is none = (is, none)
+    → (line_problem whose files line.text ≡ None)
+    × (bad_line_from whose (suc number) files lines ≡ None)
+first-good whose number files line lines (Some found) is none = cc
+first-good whose number files line lines None is none = (is, none)
 
 -- what all lines do
 lines-lawful :
-    (day number : ℕ) (named : Named) (files : Files) (lines : List Line)
-    → ((other : List ℕ) → is_listed other named.users ≡ false
-    → is_listed other (map (λ line. line_name line.text) lines) ≡ false)
+    (whose : HashesOf) (day number : ℕ) (named : Named) (files : Files) (lines : List Line)
+    → ((other : List ℕ) → is_listed other (accounts_of whose named) ≡ false
+    → is_listed other (names_in lines) ≡ false)
     → AllByRecursion (λ line. Lacks newline line.text) lines
-    → bad_line_from number files lines ≡ None
-    → AllByRecursion (IsLawful day false false named) (map (line_script files day) lines)
-lines-lawful day number named files [] has apart none = tt
-lines-lawful day number named files (line ∷ lines) has apart none =
-    let good = first-good number files line lines (line_problem files line.text) refl none
-    in let others = map (λ other. line_name other.text) lines
+    → bad_line_from whose number files lines ≡ None
+    → AllByRecursion (IsLawful day false false named) (map (line_script whose files day) lines)
+lines-lawful whose day number named files [] has apart none = tt
+lines-lawful whose day number named files (line ∷ lines) has apart none =
+    let good = first-good whose number files line lines (line_problem whose files line.text) refl none
+    in let others = names_in lines
     in (
-      set-hash-lawful named (line_name line.text) (line_hash line.text) files
+      set-hash-lawful whose day named (line_name line.text) (line_hash line.text) files
           (λ other unnamed. not-this other (line_name line.text) others (has other unnamed))
-          (hash-field files line.text apart.0 good.0),
-      lines-lawful day (suc number) named files lines
+          (hash-field whose files line.text apart.0 good.0),
+      lines-lawful whose day (suc number) named files lines
           (λ other unnamed. not-others other (line_name line.text) others (has other unnamed))
           apart.1 good.1,
     )
 
--- chpasswd sets hashes without `:`
+-- the hashes that an input sets have no `:`
+set-hashes-lawful :
+    (whose : HashesOf) (day : ℕ) (named : Named) (input : List ℕ) (files : Files)
+    → accounts_of whose named ≡ names_in (lines_of input)
+    → first_some (set_hashes whose input files day).refusals ≡ None
+    → IsLawful day false false named (set_hashes whose input files day).script
+set-hashes-lawful whose day named input files are none = all-hold (lawful-composed named)
+    (map (line_script whose files day) (lines_of input))
+    (lines-lawful whose day 1 named files (lines_of input)
+    (λ other unnamed. subst (λ names. is_listed other names ≡ false) are unnamed)
+    (lines_of-are input).apart
+    (first-none (bad_line_from whose 1 files (lines_of input)) [] none).0)
+
+-- chpasswd sets such hashes
 pub chpasswd-lawful : LawfulTool Chpasswd
-chpasswd-lawful request input day files settings =
-    let named = named_by Chpasswd request input files
-    in quiet-act refl refl refl (λ none. all-hold (lawful-composed named)
-    (map (line_script files day) (lines_of input))
-    (lines-lawful day 1 named files (lines_of input) (λ other unnamed. unnamed)
-    (lines_of-are input).apart (first-none (bad_line_from 1 files (lines_of input)) [] none).0))
+chpasswd-lawful request input day files settings = quiet-act refl refl refl
+    (set-hashes-lawful Users day (named_by Chpasswd request input files) input files refl)
+
+-- and so does chgpasswd
+pub chgpasswd-lawful : LawfulTool Chgpasswd
+chgpasswd-lawful request input day files settings = quiet-act refl refl refl
+    (set-hashes-lawful Groups day (named_by Chgpasswd request input files) input files refl)

@@ -15,7 +15,7 @@ use Rattle.account_model.specs.declared.refusal.Refusal.TheVariants.{Multiple}
 use Rattle.std.proofs.Common.{◌∙◌, ap}
 use Rattle.account_model.specs.Words.{is_batch, request_of}
 use Rattle.account_model.specs.Batch.{written_by}
-use Rattle.account_model.specs.Answer.{Changed, FileProblem, files_problem, files_eq, succeeding, answer, answer_under, answer_written, unusable as unusable_answer, deed, new_problem, passes_limit, TableTooLarge, TableAbsent, SettingsTooLarge, BadSettingAt}
+use Rattle.account_model.specs.Answer.{Changed, FileProblem, files_problem, files_eq, succeeding, answer, command_answer, answer_under, answer_written, unusable as unusable_answer, deed, new_problem, passes_limit, TableTooLarge, TableAbsent, SettingsTooLarge, BadSettingAt}
 use Rattle.account_model.proofs.Image.{image}
 use Rattle.account_model.proofs.SettingsImage.{image_defs, file}
 use Rattle.account_model.specs.Tables.{passwd_records, files_after}
@@ -52,14 +52,14 @@ large_table : (bytes : List ℕ) → passes_limit bytes ≡ true
     { passwd = Some bytes; group = None }) None
     ≡ unusable 10 (TableTooLarge Passwd) "groupadd: passwd is too large"
 unfolding digits
-large_table bytes large = rw (large, answer, first_some) refl
+large_table bytes large = rw (large, answer, command_answer, first_some) refl
 
 -- `pwck -P R -r`: a login.defs above the limit
 large_settings : (bytes : List ℕ) → passes_limit bytes ≡ true
     → answer_to (words "pwck -P R -r") nothing (Some bytes)
     ≡ unusable 3 SettingsTooLarge "pwck: login.defs is too large"
 unfolding digits
-large_settings bytes large = rw (large, answer, first_some) refl
+large_settings bytes large = rw (large, answer, command_answer, first_some) refl
 
 -- a new group above the limit is answered as one that was read
 large_new_table :
@@ -90,7 +90,13 @@ find-nothing (r ∷ records) = find-nothing records
 
 -- the request of `groupadd -P R q`
 abbrev adding_q : Request
-adding_q = record { tool = Groupadd; prefix = codes "R"; options = []; operands = codes "q" ∷ [] }
+adding_q = record {
+  tool = Groupadd;
+  prefix = codes "R";
+  options = [];
+  operands = codes "q" ∷ [];
+  plan = None;
+}
 
 -- an empty group, and a passwd of these bytes
 abbrev with_passwd : List ℕ → Files
@@ -144,10 +150,11 @@ answer-made :
     → files_problem files None ≡ None
     → outcome_of (action_of request [] today files []) files ≡ Ok made
     → is_batch request.tool ≡ false
+    → request.plan ≡ None
     → answer request [] today files None
     ≡ answer_written request.tool files (written_by request.tool made)
-answer-made request files made usable outcome single =
-    rw (usable, single, outcome, answer, answer_under) refl
+answer-made request files made usable outcome single carried =
+    rw (carried, usable, single, outcome, answer, command_answer, answer_under) refl
 
 -- the answer to a change within the limits
 changed-made :
@@ -174,7 +181,7 @@ unfolding digits
 any_passwd bytes small =
     answer-made adding_q (with_passwd bytes) (record
     { files = with_q bytes; status = 0; output = []; notices = [] })
-    (first-small (None ∷ None ∷ None ∷ None ∷ None ∷ None ∷ []) bytes small) (q-outcome bytes) refl
+    (first-small (None ∷ None ∷ None ∷ None ∷ None ∷ None ∷ []) bytes small) (q-outcome bytes) refl refl
     ∙ changed-made Groupadd (with_passwd bytes)
     (record { files = with_q bytes; status = 0; output = []; notices = [] })
     (first-small (None ∷ None ∷ None ∷ None ∷ None ∷ []) bytes small)

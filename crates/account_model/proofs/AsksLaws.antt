@@ -1,6 +1,7 @@
 -- Claim: words ask for a request exactly where that request is read of them (`asks_iff_read`), and
 -- every list of words asks for one request or has one fault (`one_request`, `request_or_fault`).
--- The same holds of the words of a line of a batch (`asks_as_iff_read` and its likes).
+-- The same holds of the words of a line of a batch (`asks_as_iff_read` and its likes); a plan's words ask for what
+-- those behind `plan` ask for (`behind_is_asked`).
 -- Way: each condition of `AsksAs` is one step of `request_as`. What is asked for passes each step
 -- (`asked_is_read`). What is read has passed each: the limits, the tool, the spelling, the prefix,
 -- the operands and the rules, in this order (`read_is_asked`).
@@ -15,8 +16,9 @@ use Rattle.account_model.specs.declared.tool.Tool.TheVariants.{Useradd}
 use Rattle.account_model.specs.declared.word_fault.WordFault.{WordFault}
 use Rattle.account_model.specs.declared.word_fault.WordFault.TheVariants.{TooFew}
 use Rattle.account_model.specs.declared.given.Given.{Given}
-use Rattle.account_model.specs.Request.{Request}
-use Rattle.account_model.specs.Words.{tool_name, tools, tool_named, may_name, tool_for, past_limit, without_prefix, prefix_value, broken_rule, IsPrefix, AsksAs, Asks, request_by_rules, prefix_for, request_with, request_of_arguments, request_of_tool, request_within_limits, request_by_limit, request_as, request_of, fault_as, fault}
+use Rattle.account_model.specs.Request.{Request, carried_out}
+use Rattle.account_model.specs.Words.{tool_name, tools, tool_named, may_name, tool_for, past_limit, without_prefix, prefix_value, broken_rule, IsPrefix, AsksAs, Asks, request_by_rules, prefix_for, request_with, request_of_arguments, request_of_tool, request_within_limits, request_by_limit, planned_so, request_as, request_of, fault_as, fault}
+use Rattle.account_model.specs.PlanWords.{command_words, plan_of}
 use Rattle.account_model.specs.Options.{Word, OptionForm, with_value}
 use Rattle.account_model.specs.ToolOptions.{root_form, option_forms, own_options, options_for, operands_of, most_operands}
 use Rattle.account_model.specs.Text.{hyphen}
@@ -126,16 +128,25 @@ prefix_is_read Command tool given [] is = absurd (is.1 refl)
 prefix_is_read Command tool given (c ∷ prefix) is = ap (prefix_for Command) is.0
 prefix_is_read Line tool given prefix is = ap Ok (sym is)
 
+-- a request that is carried out
+abbrev pub tool_request : Tool → Word → List Given → List Word → Request
+tool_request tool prefix options operands = record {
+  tool = tool;
+  prefix = prefix;
+  options = options;
+  operands = operands;
+  plan = None;
+}
+
 -- the request of a prefix, as many operands as the tool takes, and options that break no rule
 pub asked_with :
     (tool : Tool) (options : List Given) (operands : List Word) (prefix : Word)
     → operands_of tool ≤ length operands
     → broken_rule tool options ≡ None
     → request_with tool options operands (Ok prefix)
-    ≡ Ok (record { tool = tool; prefix = prefix; options = options; operands = operands })
+    ≡ Ok (tool_request tool prefix options operands)
 asked_with tool options operands prefix enough_operands rules =
-    let request : Request =
-    record { tool = tool; prefix = prefix; options = options; operands = operands } in
+    let request = tool_request tool prefix options operands in
     let few = nat_lt (length operands) (operands_of tool) in
     let enough : few ≡ false = false_from_ne_true few
     (λ less.
@@ -163,6 +174,7 @@ asked_is_read whose words request asks =
     (prefix_is_read whose tool asks.given request.prefix asks.prefix)
     ∙ ap (λ options. request_with tool options operands (Ok request.prefix)) (sym asks.options)
     ∙ asked_with tool request.options operands request.prefix asks.enough asks.rules
+    ∙ ap (λ plan. Ok (record request { plan = plan })) (sym asks.plan)
 
 -- ---- What is read is asked for
 
@@ -197,25 +209,14 @@ pub rules_are_kept :
     → IsPrefix whose tool given prefix
     → (broken : Option ℕ)
     → broken_rule tool (without_prefix tool given) ≡ broken
-    → request_by_rules broken (record {
-      tool = tool;
-      prefix = prefix;
-      options = without_prefix tool given;
-      operands = operands;
-    })
+    → request_by_rules broken (tool_request tool prefix (without_prefix tool given) operands)
     ≡ Ok request
     → AsksAs whose words request
 rules_are_kept whose words tool given operands prefix request is enough few stands (Some number)
     rules read = absurd (cc)
 rules_are_kept whose words tool given operands prefix request is enough few stands None rules
     read =
-    let same : record {
-      tool = tool;
-      prefix = prefix;
-      options = without_prefix tool given;
-      operands = operands;
-    }
-    ≡ request = cc in
+    let same : tool_request tool prefix (without_prefix tool given) operands ≡ request = cc in
     subst (AsksAs whose words) same (record {
       limits = is.limits;
       arguments = is.arguments;
@@ -228,6 +229,7 @@ rules_are_kept whose words tool given operands prefix request is enough few stan
       few = few;
       options = refl;
       rules = rules;
+      plan = refl;
     })
 
 -- with at most the operands that the tool takes, what is read is asked for
@@ -389,10 +391,44 @@ module _ (whose : WordsOf) where
 
 -- ---- The words of a command
 
+-- what is asked for is read of the words behind `plan`, and then planned
+asks_is_read :
+    (words : List Word) (request : Request) → Asks words request → request_of words ≡ Ok request
+asks_is_read words request asks =
+    ap (planned_so (plan_of words))
+    (asked_is_read Command (command_words words) (carried_out request) asks.command)
+    ∙ ap (λ plan. Ok (record request { plan = plan })) (sym asks.plan)
+
+-- what the words behind `plan` ask for is asked for as it is planned
+behind_is_asked :
+    (words : List Word) (behind : Request)
+    → AsksAs Command (command_words words) behind
+    → Asks words (record behind { plan = plan_of words })
+behind_is_asked words behind asks = record {
+  command = subst (AsksAs Command (command_words words))
+      (ap (λ plan. record behind { plan = plan }) asks.plan) asks;
+  plan = refl;
+}
+
+-- and so is what is read of them
+planned_is_asked :
+    (words : List Word) (request : Request) (read : Result Request WordFault)
+    → request_as Command (command_words words) ≡ read
+    → planned_so (plan_of words) read ≡ Ok request
+    → Asks words request
+planned_is_asked words request (Err fault) is read = absurd (cc)
+planned_is_asked words request (Ok behind) is read =
+    let same : record behind { plan = plan_of words } ≡ request = cc in
+    subst (Asks words) same (behind_is_asked words behind
+    (read_is_asked Command (command_words words) behind is))
+
 -- the words ask for a request exactly where it is read of them
 pub asks_iff_read :
     (words : List Word) (request : Request) → Asks words request ↔ (request_of words ≡ Ok request)
-asks_iff_read = asks_as_iff_read Command
+asks_iff_read words request = (
+  asks_is_read words request,
+  planned_is_asked words request (request_as Command (command_words words)) refl,
+)
 
 -- words ask for at most one request
 pub one_request :
@@ -400,16 +436,23 @@ pub one_request :
     → Asks words first
     → Asks words second
     → first ≡ second
-one_request = one_request_as Command
+one_request words first second asks_first asks_second =
+    let read_first : request_of words ≡ Ok first = asks_is_read words first asks_first in
+    let read_second : request_of words ≡ Ok second = asks_is_read words second asks_second in cc
 
 -- words that ask for a request have no fault
 pub asks_no_fault :
     (words : List Word) (request : Request) → Asks words request → fault words ≡ None
-asks_no_fault = asks_as_no_fault Command
+asks_no_fault words request asks =
+    asks_as_no_fault Command (command_words words) (carried_out request) asks.command
 
 -- every list of words asks for a request or has a fault
 pub request_or_fault :
     (words : List Word)
     → ((request : Request) × Asks words request)
     ⊎ ((first : WordFault) × (fault words ≡ Some first))
-request_or_fault = request_or_fault_as Command
+request_or_fault words = elim (request_or_fault_as Command (command_words words)) [
+  | inl (behind, asks) ↦
+      inl (record behind { plan = plan_of words }, behind_is_asked words behind asks)
+  | inr faulty ↦ inr faulty
+]

@@ -42,11 +42,18 @@ two_requests : line_requests (lines "# groups|groupadd -g 1500 staff|groupadd q"
         prefix = [];
         options = as_value (byte "g") (codes "1500") ∷ [];
         operands = codes "staff" ∷ [];
+        plan = None;
       };
     })
     ∷ (record {
       number = 3;
-      request = record { tool = Groupadd; prefix = []; options = []; operands = codes "q" ∷ [] };
+      request = record {
+        tool = Groupadd;
+        prefix = [];
+        options = [];
+        operands = codes "q" ∷ [];
+        plan = None;
+      };
     })
     ∷ []
 two_requests = refl
@@ -61,6 +68,7 @@ asks_with_blank :
         prefix = [];
         options = as_value (byte "c") (codes "Ann Lee") ∷ as_flag (byte "N") ∷ [];
         operands = codes "ann" ∷ [];
+        plan = None;
       };
     })
     ∷ []

@@ -28,9 +28,10 @@ use Rattle.account_model.specs.Change.{action_of}
 use Rattle.acct_text.specs.Limits.{table_limit}
 use Rattle.acct_text.specs.Tables.{all_tables}
 use Rattle.acct_text.specs.Contents.{same_content, IsChange}
-use Rattle.account_model.specs.Answer.{Answer, FileProblem, Same, Changed, TableTooLarge, passes_limit, new_table_problem, new_problem, files_problem, files_eq, answer, answer_lines, answer_outcome, answer_under, is_faulty_batch, new_files, deed, succeeding, unusable}
+use Rattle.account_model.specs.Answer.{Answer, FileProblem, Same, Changed, TableTooLarge, passes_limit, new_table_problem, new_problem, files_problem, files_eq, answer, answer_lines, answer_outcome, answer_under, is_faulty_batch, command_answer, new_files, deed, succeeding, unusable}
 use Rattle.acct_text.proofs.NumberLaws.{some-inj}
 use Rattle.account_model.proofs.BatchLaws.{any-line, batch-keeps, outcome-made}
+use Rattle.account_model.proofs.PlanLaws.{asked-changes}
 
 -- ---- Tables that differ
 
@@ -225,6 +226,17 @@ module _ (request : Request) (input : List ℕ) (day : ℕ) (old : Files) (setti
   answer-makes (Some p) e = absurd (cc)
   answer-makes None e = under-makes (is_batch request.tool) refl e
 
+-- an answer's new files are made, and differ from the old ones: a plan has none
+new-made :
+    (request : Request) (input : List ℕ) (day : ℕ) (old : Files) (defs : Option (List ℕ))
+    (new : Files)
+    → new_files (answer request input day old defs).cause ≡ Some new
+    → IsMadeNew request input day old (settings_of (unwrap_or defs [])) new × IsOther old new
+new-made request input day old defs new e =
+    answer-makes request input day old (settings_of (unwrap_or defs [])) new
+    (files_problem old defs)
+    (asked-changes request.plan old new (command_answer request input day old defs) e)
+
 -- what isn't there, where it is asked for
 none-faulty :
     {X : Type 0} (faulty : Option X) (batch : Bool)
@@ -276,9 +288,7 @@ pub changes-makes :
     (new : Files)
     → new_files (answer request input day old defs).cause ≡ Some new
     → IsMadeNew request input day old (settings_of (unwrap_or defs [])) new
-changes-makes request input day old defs new e =
-    (answer-makes request input day old (settings_of (unwrap_or defs [])) new
-    (files_problem old defs) e).0
+changes-makes request input day old defs new e = (new-made request input day old defs new e).0
 
 -- and differ from the old ones
 pub changes-differ :
@@ -287,8 +297,7 @@ pub changes-differ :
     → new_files (answer request input day old defs).cause ≡ Some new
     → files_eq old new ≡ false
 changes-differ request input day old defs new e =
-    (answer-makes request input day old (settings_of (unwrap_or defs [])) new
-    (files_problem old defs) e).1.differ
+    (new-made request input day old defs new e).1.differ
 
 -- so those of a deed are made
 pub deed-makes :
@@ -347,11 +356,10 @@ pub changes-is :
     → new_files (answer request input day old defs).cause ≡ Some new
     → IsChange (table_of old) (table_of new)
 changes-is request input day old defs new e =
-    let settings = settings_of (unwrap_or defs [])
-    in let makes = answer-makes request input day old settings new (files_problem old defs) e
+    let makes = new-made request input day old defs new e
     in record {
       changed = differing old new all_tables makes.1.differ;
-      standing = new-stand request input day old settings new makes.0;
+      standing = new-stand request input day old (settings_of (unwrap_or defs [])) new makes.0;
       small = λ tab bytes is. within-limit tab (table_of new tab) bytes
           (each-table (λ tab. new_table_problem tab (table_of new tab) ≡ None)
           (small-among new all_tables makes.1.small) tab) is;

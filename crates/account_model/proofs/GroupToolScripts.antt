@@ -86,14 +86,15 @@ gpasswd-passes group request files none =
     }
 
 -- the user of `-a` can stand in a list
-added-listed :
-    (group : List ℕ) (request : Request) (files : Files) (user : List ℕ)
-    → GpasswdPasses group request files
+pub added-listed :
+    (request : Request) (files : Files) (user : List ℕ)
+    → refuse_value (codes "a") request (λ name. missing_user name files) ≡ None
+    → refuse_value (codes "a") request bad_list_name ≡ None
     → value_of (codes "a") request ≡ Some user
     → IsListed user
-added-listed group request files user passes given = user-listed user files
-    (value-none (codes "a") request (λ name. missing_user name files) user passes.added given)
-    (value-none (codes "a") request bad_list_name user passes.listed given)
+added-listed request files user added listed given = user-listed user files
+    (value-none (codes "a") request (λ name. missing_user name files) user added given)
+    (value-none (codes "a") request bad_list_name user listed given)
 
 -- the users of `-A` can stand in a list
 administrators-listed :
@@ -134,7 +135,7 @@ gpasswd-script-lawful named group request files has passes =
       option-holds composed (codes "a") request (add_to_group group)
           (λ user given. members-lawful named group has (with_name user)
           (λ names. with-listed user names
-          (added-listed group request files user passes given))),
+          (added-listed request files user passes.added passes.listed given))),
       (
         option-holds composed (codes "d") request (remove_from_group group)
             (λ user given. members-lawful named group has (without_name user)

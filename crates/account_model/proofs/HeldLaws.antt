@@ -68,6 +68,16 @@ cut-field :
 cut-field text pieces cut lacks =
     pieces-field pieces cut.apart (cut-lack newline colon text pieces cut lacks)
 
+-- and so can those of a field between commas
+pub list-field :
+    (text : List ℕ) (pieces : List (List ℕ))
+    → AreCutAt comma text pieces
+    → IsField text
+    → AllByRecursion IsField pieces
+list-field text pieces cut field =
+    pieces-field pieces (cut-lack colon comma text pieces cut field.no_colon)
+    (cut-lack newline comma text pieces cut field.no_newline)
+
 -- pieces that aren't empty can stand in a list
 listed :
     (pieces : List (List ℕ))
@@ -92,9 +102,7 @@ names-held :
     → AllByRecursion IsListed names
 names-held {text = text} field are =
     subst (λ n. AllByRecursion IsListed n) (sym are.dropped)
-    (listed are.pieces (pieces-field are.pieces
-    (cut-lack colon comma text are.pieces are.cut field.no_colon)
-    (cut-lack newline comma text are.pieces are.cut field.no_newline)) are.cut.apart)
+    (listed are.pieces (list-field text are.pieces are.cut field) are.cut.apart)
 
 -- a number of shadow is one that shadow holds
 days-held : (text : List ℕ) (days : Option ℕ) → IsDays text days → IsDaysNumber days

@@ -4,6 +4,7 @@ mod Image
 mod AnswerRows
 mod BatchRows
 mod NamedRows
+mod ToldRows
 pub mod BatchLaws
 pub mod DeedLaws
 pub mod RefusalFacts
@@ -11,6 +12,7 @@ pub mod WrittenScripts
 pub mod MemberLaws
 pub mod SettingBounds
 pub mod GroupToolScripts
+pub mod GroupmemsScripts
 pub mod AgingToolScripts
 pub mod ConversionScripts
 pub mod ConversionLaws
@@ -36,8 +38,13 @@ mod GroupaddRows
 mod GroupmodRows
 mod GroupdelRows
 mod GpasswdRows
+mod GroupmemsRows
 mod ChageRows
 mod ChpasswdRows
+mod ChgpasswdRows
+mod ChfnRows
+pub mod ChfnScripts
+mod ChfnLaws
 mod ConversionRows
 mod PasswdRows
 mod PwckRows
@@ -96,3 +103,7 @@ pub mod FieldFacts
 pub mod CountedLaws
 pub mod FreeIds
 pub mod SettingsImage
+pub mod PlanLaws
+mod PlanRows
+pub mod DiffLaws
+pub mod ToldLaws

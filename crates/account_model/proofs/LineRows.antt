@@ -134,7 +134,13 @@ faulty text = elim (asked text) [ Err fault ↦ Some fault | Ok request ↦ None
 -- a request with one operand, and no prefix
 abbrev request : Tool → List Given → String → Result Request WordFault
 request tool options operand =
-    Ok (record { tool = tool; prefix = []; options = options; operands = codes operand ∷ [] })
+    Ok (record {
+      tool = tool;
+      prefix = [];
+      options = options;
+      operands = codes operand ∷ [];
+      plan = None;
+    })
 
 -- no prefix is needed
 asks_useradd :
@@ -169,9 +175,17 @@ asks_empty_value :
     asked "usermod -s '' ann" ≡ request Usermod (as_value (byte "s") [] ∷ []) "ann"
 asks_empty_value = refl
 
--- four tools have no place in a batch
+-- some tools have no place in a batch
 faulty_chpasswd : faulty "chpasswd -e" ≡ Some UnknownTool
 faulty_chpasswd = refl
+
+-- nor has chgpasswd
+faulty_chgpasswd : faulty "chgpasswd -e" ≡ Some UnknownTool
+faulty_chgpasswd = refl
+
+-- nor groupmems
+faulty_groupmems : faulty "groupmems -g q -p" ≡ Some UnknownTool
+faulty_groupmems = refl
 
 -- nor has pwck
 faulty_pwck : faulty "pwck -r" ≡ Some UnknownTool
@@ -184,6 +198,14 @@ faulty_grpck = refl
 -- nor getsubids
 faulty_getsubids : faulty "getsubids ann" ≡ Some UnknownTool
 faulty_getsubids = refl
+
+-- nor chfn
+faulty_chfn : faulty "chfn -f Ann ann" ≡ Some UnknownTool
+faulty_chfn = refl
+
+-- nor chsh
+faulty_chsh : faulty "chsh -s /bin/sh ann" ≡ Some UnknownTool
+faulty_chsh = refl
 
 -- nor passwd
 faulty_passwd : faulty "passwd -l ann" ≡ Some UnknownTool

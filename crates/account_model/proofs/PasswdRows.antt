@@ -28,6 +28,7 @@ asked options user = record {
   prefix = codes "R";
   options = flat_map option_in (words options);
   operands = codes user ∷ [];
+  plan = None;
 }
 
 -- what it makes of files

@@ -3,7 +3,7 @@ use Rattle.std.proofs.Common.{◌≡◌, ℕ, ◌≤◌, List}
 use Rattle.std.specs.Prelude.{None}
 use Rattle.acct_text.specs.declared.files.Files.{Files}
 use Rattle.account_model.specs.declared.tool.Tool.{Tool}
-use Rattle.account_model.specs.declared.tool.Tool.TheVariants.{Useradd, Usermod, Userdel, Groupadd, Groupmod, Groupdel, Gpasswd, Chage, Chpasswd, Passwd, Pwconv, Pwunconv, Grpconv, Grpunconv, Pwck, Grpck, Getsubids, Batch}
+use Rattle.account_model.specs.declared.tool.Tool.TheVariants.{Useradd, Usermod, Userdel, Chfn, Chsh, Groupadd, Groupmod, Groupdel, Gpasswd, Groupmems, Chage, Chpasswd, Chgpasswd, Passwd, Pwconv, Pwunconv, Grpconv, Grpunconv, Pwck, Grpck, Getsubids, Batch}
 use Rattle.account_model.specs.Text.{first_some}
 use Rattle.account_model.specs.Records.{greatest_days}
 use Rattle.account_model.specs.Request.{Request}
@@ -13,10 +13,12 @@ use Rattle.account_model.specs.WrittenScript.{IsWrittenScript}
 use Rattle.account_model.proofs.LawfulScripts.{written-small}
 use Rattle.account_model.proofs.LawfulTools.{LawfulTool}
 use Rattle.account_model.proofs.GroupToolScripts.{groupadd-lawful, groupmod-lawful, groupdel-lawful, gpasswd-lawful}
+use Rattle.account_model.proofs.GroupmemsScripts.{groupmems-lawful}
 use Rattle.account_model.proofs.UseraddScripts.{useradd-lawful}
 use Rattle.account_model.proofs.UserdelScripts.{userdel-lawful}
 use Rattle.account_model.proofs.UsermodScripts.{usermod-lawful}
-use Rattle.account_model.proofs.AgingToolScripts.{chage-lawful, chpasswd-lawful}
+use Rattle.account_model.proofs.AgingToolScripts.{chage-lawful, chgpasswd-lawful, chpasswd-lawful}
+use Rattle.account_model.proofs.ChfnScripts.{chfn-lawful, chsh-lawful}
 use Rattle.account_model.proofs.PasswdScripts.{passwd-lawful}
 use Rattle.account_model.proofs.ConversionScripts.{pwconv-lawful, pwunconv-lawful, grpconv-lawful, grpunconv-lawful}
 use Rattle.account_model.proofs.ReportScripts.{pwck-lawful, grpck-lawful, getsubids-lawful, batch-lawful}
@@ -26,12 +28,16 @@ pub meaning : (tool : Tool) → LawfulTool tool
 meaning Useradd = useradd-lawful
 meaning Usermod = usermod-lawful
 meaning Userdel = userdel-lawful
+meaning Chfn = chfn-lawful
+meaning Chsh = chsh-lawful
 meaning Groupadd = groupadd-lawful
 meaning Groupmod = groupmod-lawful
 meaning Groupdel = groupdel-lawful
 meaning Gpasswd = gpasswd-lawful
+meaning Groupmems = groupmems-lawful
 meaning Chage = chage-lawful
 meaning Chpasswd = chpasswd-lawful
+meaning Chgpasswd = chgpasswd-lawful
 meaning Passwd = passwd-lawful
 meaning Pwconv = pwconv-lawful
 meaning Pwunconv = pwunconv-lawful

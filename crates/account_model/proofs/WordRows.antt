@@ -4,7 +4,7 @@ use Rattle.std.specs.Prelude.{◌≡◌, ◌==◌, List, [], ◌∷◌, replicat
 use Rattle.std.specs.List.{slice_split}
 use Rattle.std.specs.Str.{byte}
 use Rattle.account_model.specs.declared.tool.Tool.{Tool}
-use Rattle.account_model.specs.declared.tool.Tool.TheVariants.{Useradd, Usermod, Userdel, Groupadd, Groupmod, Groupdel, Gpasswd, Chage, Chpasswd, Pwck, Grpck, Getsubids, Batch}
+use Rattle.account_model.specs.declared.tool.Tool.TheVariants.{Useradd, Usermod, Userdel, Chfn, Groupadd, Groupmod, Groupdel, Gpasswd, Groupmems, Chage, Chpasswd, Chgpasswd, Pwck, Grpck, Getsubids, Batch}
 use Rattle.account_model.specs.declared.word_fault.WordFault.{WordFault}
 use Rattle.account_model.specs.declared.word_fault.WordFault.TheVariants.{WordLimit, NoTool, UnknownTool, UnknownOption, MissingValue, UnexpectedValue, TooMany, NoPrefix, EmptyPrefix, TooFew, Clash}
 use Rattle.account_model.specs.Options.{Word}
@@ -26,8 +26,13 @@ valued letter value = record { letter = byte letter; value = Some (codes value) 
 
 -- a request with the prefix R
 abbrev request : Tool → List Given → List Word → Result Request WordFault
-request tool options operands = Ok (record
-    { tool = tool; prefix = codes "R"; options = options; operands = operands })
+request tool options operands = Ok (record {
+  tool = tool;
+  prefix = codes "R";
+  options = options;
+  operands = operands;
+  plan = None;
+})
 
 -- one operand
 abbrev one : String → List Word
@@ -100,9 +105,25 @@ asks_chage :
     request_of (words_of "chage -P R -l bob") ≡ request Chage (flagged "l" ∷ []) (one "bob")
 asks_chage = refl
 
+-- `-h` of chfn takes a value
+asks_chfn :
+    request_of (words_of "chfn -P R -h5 --other a,b=c bob")
+    ≡ request Chfn (valued "h" "5" ∷ valued "o" "a,b=c" ∷ []) (one "bob")
+asks_chfn = refl
+
 -- no operands
 asks_chpasswd : request_of (words_of "chpasswd -P R -e") ≡ request Chpasswd (flagged "e" ∷ []) []
 asks_chpasswd = refl
+
+asks_chgpasswd :
+    request_of (words_of "chgpasswd -P R --encrypted") ≡ request Chgpasswd (flagged "e" ∷ []) []
+asks_chgpasswd = refl
+
+-- the group of groupmems is no operand
+asks_groupmems :
+    request_of (words_of "groupmems -P R --group sudo -abob")
+    ≡ request Groupmems (valued "g" "sudo" ∷ valued "a" "bob" ∷ []) []
+asks_groupmems = refl
 
 -- batch may have one operand, and may have none
 asks_batch : request_of (words_of "batch -P R") ≡ request Batch [] []
@@ -299,6 +320,22 @@ faulty_gpasswd_2 = refl
 faulty_gpasswd_3 : fault (words_of "gpasswd -P R -r -R sudo") ≡ Some (Clash 2)
 faulty_gpasswd_3 = refl
 
+-- the rules of groupmems
+faulty_groupmems : fault (words_of "groupmems -P R -l") ≡ Some (Clash 1)
+faulty_groupmems = refl
+
+-- what is to be done isn't said
+faulty_groupmems_2 : fault (words_of "groupmems -P R -g sudo") ≡ Some (Clash 2)
+faulty_groupmems_2 = refl
+
+-- or twice
+faulty_groupmems_3 : fault (words_of "groupmems -P R -g sudo -a bob -p") ≡ Some (Clash 2)
+faulty_groupmems_3 = refl
+
+-- it has no operand
+faulty_groupmems_4 : fault (words_of "groupmems -P R -l sudo") ≡ Some (TooMany 4)
+faulty_groupmems_4 = refl
+
 -- the rules of chage
 faulty_chage : fault (words_of "chage -P R bob") ≡ Some (Clash 1)
 faulty_chage = refl
@@ -323,9 +360,21 @@ faulty_passwd_3 = refl
 faulty_pwconv : fault (words_of "pwconv -P R bob") ≡ Some (TooMany 3)
 faulty_pwconv = refl
 
+-- the rule of chfn
+faulty_chfn : fault (words_of "chfn -P R bob") ≡ Some (Clash 1)
+faulty_chfn = refl
+
+-- the rule of chsh
+faulty_chsh : fault (words_of "chsh -P R bob") ≡ Some (Clash 1)
+faulty_chsh = refl
+
 -- the rule of chpasswd
 faulty_chpasswd : fault (words_of "chpasswd -P R") ≡ Some (Clash 1)
 faulty_chpasswd = refl
+
+-- and that of chgpasswd
+faulty_chgpasswd : fault (words_of "chgpasswd -P R") ≡ Some (Clash 1)
+faulty_chgpasswd = refl
 
 -- the rules of pwck and grpck
 faulty_pwck_4 : fault (words_of "pwck -P R -q") ≡ Some (Clash 1)

@@ -1,6 +1,7 @@
 -- What a command answers on given files, and the new files that it makes.
 use Rattle.std.specs.List.{list_all}
 use Rattle.std.specs.Prelude.{map, ℕ, Bool, true, false, not, ◌&&◌, List, [], ◌∷◌, ◌++◌, codes, decimal, length, nat_le, Option, Some, None, is_some, option_map, unwrap_or, Result, Ok, Err, if◌then◌else◌}
+use Rattle.account_model.specs.declared.plan_form.PlanForm.{PlanForm}
 use Rattle.account_model.specs.declared.tool.Tool.{Tool}
 use Rattle.account_model.specs.declared.tool.Tool.TheVariants.{Batch}
 use Rattle.acct_text.specs.declared.Tab.{Tab}
@@ -19,6 +20,7 @@ use Rattle.account_model.specs.Batch.{LineRefusal, Written, batch, ensures, writ
 use Rattle.account_model.specs.Messages.{line_refusal_text, message, refusal_text}
 use Rattle.account_model.specs.Statuses.{file_status, refusal_status}
 use Rattle.account_model.specs.Change.{action_of}
+use Rattle.account_model.specs.PlanTexts.{told}
 use Rattle.acct_text.specs.Limits.{table_limit}
 use Rattle.acct_text.specs.Contents.{same_content}
 
@@ -167,9 +169,10 @@ answer_under request input day files settings =
     else answer_outcome request.tool files
     (outcome_of (action_of request input day files settings) files)
 
--- The answer to a request: the first problem of the files, else the refusal, else what is made.
-abbrev pub answer : Request → List ℕ → ℕ → Files → Option (List ℕ) → Answer
-answer request input day files defs = elim (files_problem files defs) [
+-- the answer to a command that is carried out: the first problem of the files, else the refusal, else what
+-- is made
+abbrev pub command_answer : Request → List ℕ → ℕ → Files → Option (List ℕ) → Answer
+command_answer request input day files defs = elim (files_problem files defs) [
   | Some problem ↦ unusable request.tool problem
   | None ↦ answer_under request input day files (settings_of (unwrap_or defs []))
 ]
@@ -178,6 +181,37 @@ answer request input day files defs = elim (files_problem files defs) [
 abbrev pub new_files : AnswerCause → Option Files
 new_files (Changed files) = Some files
 new_files cause = None
+
+-- the cause of a plan: it changes nothing
+abbrev pub planned_cause : AnswerCause → AnswerCause
+planned_cause (Changed files) = Same
+planned_cause cause = cause
+
+-- the output of a plan: it tells what would become of the files, where these can be used
+abbrev pub planned_output : PlanForm → Files → Answer → List ℕ
+planned_output form files made = elim made.cause [
+  | Unusable problem ↦ made.output
+  | cause ↦ told form files (unwrap_or (new_files cause) files) made.status made.output made.error
+]
+
+-- the answer to a plan, by that to its command: the status and the message are the command's
+abbrev pub planned : PlanForm → Files → Answer → Answer
+planned form files made = record {
+  cause = planned_cause made.cause;
+  status = made.status;
+  output = planned_output form files made;
+  error = made.error;
+}
+
+-- the answer to a request, by that to its command
+abbrev pub answer_asked : Option PlanForm → Files → Answer → Answer
+answer_asked None files made = made
+answer_asked (Some form) files made = planned form files made
+
+-- The answer to a request: a command is carried out, or planned.
+abbrev pub answer : Request → List ℕ → ℕ → Files → Option (List ℕ) → Answer
+answer request input day files defs =
+    answer_asked request.plan files (command_answer request input day files defs)
 
 -- A batch of which a line that isn't skipped asks for nothing: it is refused as a whole. What is told of
 -- it is the fault of that line.

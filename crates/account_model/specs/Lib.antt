@@ -15,6 +15,9 @@ pub mod Statuses
 pub mod Users
 pub mod Chage
 pub mod Chpasswd
+pub mod Chfn
+pub mod ChfnLaws
+pub mod Chsh
 pub mod Conversion
 pub mod ConversionLaws
 pub mod Passwd
@@ -27,6 +30,7 @@ pub mod Groupadd
 pub mod Groupmod
 pub mod Groupdel
 pub mod Gpasswd
+pub mod Groupmems
 pub mod Messages
 pub mod Change
 pub mod Batch
@@ -67,3 +71,9 @@ pub mod FreeRange
 pub mod Request
 pub mod SeenFiles
 pub mod BatchLines
+pub mod PlanTexts
+pub mod PlanWords
+pub mod PlanLaws
+pub mod PlanChanges
+pub mod PlanDiff
+pub mod PlanJson

@@ -1,11 +1,11 @@
 -- The texts of refusals, as a tool prints them on the error stream. They are this profile's own.
 use Rattle.std.specs.Prelude.{ℕ, List, [], ◌∷◌, ◌++◌, codes, decimal, flat_map, Option, None, Some, if◌then◌else◌}
 use Rattle.account_model.specs.declared.tool.Tool.{Tool}
-use Rattle.account_model.specs.declared.tool.Tool.TheVariants.{Chage, Passwd}
+use Rattle.account_model.specs.declared.tool.Tool.TheVariants.{Chage, Chfn, Passwd}
 use Rattle.account_model.specs.declared.refusal.Refusal.{Refusal}
 use Rattle.account_model.specs.declared.refusal.Refusal.TheVariants.{BadName, BadKey, BadValue, UserExists, GroupExists, NoUser, NoGroup, UidInUse, GidInUse, NoFreeUid, NoFreeGid, NoGap, Meets, EmptyHash, PrimaryGroup, NotMember, NoShadow, NoGshadow, BadLine, NoRanges, Multiple}
 use Rattle.account_model.specs.declared.refusal.LineProblem.{LineProblem}
-use Rattle.account_model.specs.declared.refusal.LineProblem.TheVariants.{NoColon, HashColon, UnknownUser, LineEnd}
+use Rattle.account_model.specs.declared.refusal.LineProblem.TheVariants.{NoColon, HashColon, UnknownUser, UnknownGroup, LineEnd}
 use Rattle.acct_text.specs.Bytes.{newline}
 use Rattle.acct_text.specs.Tables.{table_name}
 use Rattle.account_model.specs.Text.{has_byte}
@@ -24,6 +24,10 @@ path_form = codes "a path that begins with /, no : and no newline"
 -- of a comment and a hash
 abbrev pub field_form : List ℕ
 field_form = codes "no : and no newline"
+
+-- of a part of a comment
+abbrev pub part_form : List ℕ
+part_form = codes "no : , = and no newline"
 
 -- of a UID and a GID
 abbrev pub id_form : List ℕ
@@ -45,10 +49,11 @@ days_form = codes "-1 or a number from 0 to 2147483647"
 abbrev pub date_form : List ℕ
 date_form = codes "a date as 2026-01-31, days since 1970-01-01, or -1"
 
--- the form of the value of an option by its letter, which has one meaning for all tools but chage and
--- passwd
+-- the form of the value of an option by its letter, which has one meaning for all tools but chage,
+-- chfn and passwd
 abbrev pub wanted_form : Tool → ℕ → List ℕ
 wanted_form Chage letter = if has_byte letter (codes "dE") then date_form else days_form
+wanted_form Chfn letter = if has_byte letter (codes "o") then field_form else part_form
 wanted_form Passwd letter = days_form
 wanted_form tool letter =
     if has_byte letter (codes "bds") then path_form else
@@ -64,11 +69,12 @@ wanted_form tool letter =
 abbrev pub but_wanted : List ℕ → List ℕ → List ℕ
 but_wanted text form = text ++ codes " (" ++ form ++ codes ")"
 
--- what is wrong with a line of the input of chpasswd
+-- what is wrong with a line of the input of chpasswd and of chgpasswd
 abbrev pub line_problem_text : LineProblem → List ℕ
 line_problem_text NoColon = codes "no colon"
 line_problem_text HashColon = codes "colon in hash"
 line_problem_text (UnknownUser name) = codes "unknown user " ++ name
+line_problem_text (UnknownGroup name) = codes "unknown group " ++ name
 line_problem_text LineEnd = codes "ends in a carriage return"
 
 -- why the tool refuses

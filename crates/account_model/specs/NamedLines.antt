@@ -11,7 +11,7 @@ use Rattle.account_model.specs.declared.records.GroupRecord.{GroupRecord}
 use Rattle.account_model.specs.declared.records.GshadowRecord.{GshadowRecord}
 use Rattle.account_model.specs.declared.records.SubidRecord.{SubidRecord}
 use Rattle.account_model.specs.declared.tool.Tool.{Tool}
-use Rattle.account_model.specs.declared.tool.Tool.TheVariants.{Useradd, Usermod, Userdel, Groupadd, Groupmod, Groupdel, Gpasswd, Chage, Chpasswd, Passwd, Pwconv, Pwunconv, Grpconv, Grpunconv}
+use Rattle.account_model.specs.declared.tool.Tool.TheVariants.{Useradd, Usermod, Userdel, Chfn, Chsh, Groupadd, Groupmod, Groupdel, Gpasswd, Groupmems, Chage, Chpasswd, Chgpasswd, Passwd, Pwconv, Pwunconv, Grpconv, Grpunconv}
 use Rattle.account_model.specs.Text.{is_listed}
 use Rattle.account_model.specs.Format.{Format}
 use Rattle.account_model.specs.Edits.{Edit, touches}
@@ -24,7 +24,8 @@ use Rattle.account_model.specs.Values.{given_gid}
 use Rattle.account_model.specs.GivenGroups.{given_groups}
 use Rattle.account_model.specs.Request.{Request, operand}
 use Rattle.account_model.specs.Words.{is_batch}
-use Rattle.account_model.specs.Chpasswd.{line_name}
+use Rattle.account_model.specs.Chpasswd.{names_in}
+use Rattle.account_model.specs.Groupmems.{asked_group}
 use Rattle.account_model.specs.Usermod.{new_name, uid_after}
 use Rattle.account_model.specs.Userdel.{own_uid}
 use Rattle.account_model.specs.BatchLines.{LineRequest, line_requests}
@@ -100,6 +101,8 @@ named_by Userdel request input files = record names_nothing {
   groups = operand request ∷ [];
   owners = owner_fields (operand request) (own_uid (operand request) files);
 }
+named_by Chfn request input files = record names_nothing { users = operand request ∷ [] }
+named_by Chsh request input files = record names_nothing { users = operand request ∷ [] }
 named_by Groupadd request input files =
     record names_nothing { groups = operand request ∷ [] }
 named_by Groupmod request input files = record names_nothing {
@@ -110,9 +113,13 @@ named_by Groupdel request input files =
     record names_nothing { groups = operand request ∷ [] }
 named_by Gpasswd request input files =
     record names_nothing { groups = operand request ∷ [] }
+named_by Groupmems request input files =
+    record names_nothing { groups = asked_group request ∷ [] }
 named_by Chage request input files = record names_nothing { users = operand request ∷ [] }
 named_by Chpasswd request input files =
-    record names_nothing { users = map (λ line. line_name line.text) (lines_of input) }
+    record names_nothing { users = names_in (lines_of input) }
+named_by Chgpasswd request input files =
+    record names_nothing { groups = names_in (lines_of input) }
 named_by Passwd request input files = record names_nothing { users = operand request ∷ [] }
 named_by Pwconv request input files = record names_nothing { all_users = true }
 named_by Pwunconv request input files = record names_nothing { all_users = true }

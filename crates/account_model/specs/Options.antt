@@ -82,6 +82,10 @@ some_of letters options = list_any (λ letter. is_given letter options) letters
 abbrev pub one_of : List ℕ → Test
 one_of letters options = nat_le (length (filter (λ letter. is_given letter options) letters)) 1
 
+-- one of these letters, and no second one; an option that is given twice counts once
+abbrev pub exactly_one : List ℕ → Test
+exactly_one letters options = length (filter (λ letter. is_given letter options) letters) == 1
+
 -- whether no option has another letter
 abbrev pub is_alone : ℕ → List Given → Bool
 is_alone letter options = list_all (λ option. option.letter == letter) options

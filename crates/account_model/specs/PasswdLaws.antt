@@ -21,6 +21,7 @@ flag_alone tool prefix letter user = record {
   prefix = prefix;
   options = record { letter = slice_index letter 0; value = None } ∷ [];
   operands = user ∷ [];
+  plan = None;
 }
 
 -- each line of the name is as its record is printed

@@ -5,10 +5,10 @@ use Rattle.std.specs.Str.{byte}
 use Rattle.acct_text.specs.declared.Tab.{Tab}
 use Rattle.acct_text.specs.declared.Tab.TheVariants.{Passwd, Shadow, Group, Gshadow, Subuid, Subgid}
 use Rattle.account_model.specs.declared.tool.Tool.{Tool}
-use Rattle.account_model.specs.declared.tool.Tool.TheVariants.{Useradd, Usermod, Userdel, Groupadd, Groupmod, Groupdel, Gpasswd, Chage, Chpasswd, Passwd as ChangePasswd, Pwconv, Pwunconv, Grpconv, Grpunconv, Pwck, Grpck, Getsubids, Batch}
-use Rattle.account_model.specs.Options.{Word, OptionForm, Rule, alone, flag, not_both, one_of, only_with, rule, short_flag, some_of, some_option, with_value}
+use Rattle.account_model.specs.declared.tool.Tool.TheVariants.{Useradd, Usermod, Userdel, Chfn, Chsh, Groupadd, Groupmod, Groupdel, Gpasswd, Groupmems, Chage, Chpasswd, Chgpasswd, Passwd as ChangePasswd, Pwconv, Pwunconv, Grpconv, Grpunconv, Pwck, Grpck, Getsubids, Batch}
+use Rattle.account_model.specs.Options.{Word, OptionForm, Rule, alone, exactly_one, flag, not_both, one_of, only_with, rule, short_flag, some_of, some_option, with_value}
 use Rattle.account_model.specs.declared.tool_statuses.ToolStatuses.{ToolStatuses}
-use Rattle.account_model.specs.ToolStatuses.{chage_statuses, check_statuses, common_statuses, conversion_statuses, getsubids_statuses, gpasswd_statuses, group_statuses, passwd_statuses, user_statuses}
+use Rattle.account_model.specs.ToolStatuses.{chage_statuses, check_statuses, chfn_statuses, common_statuses, conversion_statuses, getsubids_statuses, gpasswd_statuses, group_statuses, passwd_statuses, user_statuses}
 
 -- when a command of the tool only shows what stands, and the tables that it then reads
 pub data Reporting : Type 0 where
@@ -73,6 +73,19 @@ check_row = record common_row {
       ∷ [];
   is_for_lines = false;
   statuses = check_statuses;
+}
+
+-- sets hashes from lines of the input, and has no operand (chpasswd(8), chgpasswd(8))
+abbrev hashes_row : ToolRow
+hashes_row = record common_row {
+  options = flag "e" "encrypted" ∷ [];
+  least = 0;
+  most = 0;
+  rules = rule "-e is needed" (some_of (codes "e")) ∷ [];
+  reads_input = true;
+  is_for_lines = false;
+  wrapper_letters = codes "c";
+  wrapper_names = codes "crypt-method" ∷ [];
 }
 
 -- a conversion, which has no option and no operand (pwconv(8))
@@ -152,6 +165,25 @@ row_of Userdel = record common_row {
   wrapper_letters = codes "r";
   wrapper_names = codes "remove" ∷ [];
 }
+row_of Chfn = record common_row {
+  name = codes "chfn";
+  options = with_value "f" "full-name"
+      ∷ with_value "r" "room"
+      ∷ with_value "w" "work-phone"
+      ∷ with_value "h" "home-phone"
+      ∷ with_value "o" "other"
+      ∷ [];
+  rules = wants_option ∷ [];
+  is_for_lines = false;
+  statuses = chfn_statuses;
+}
+row_of Chsh = record common_row {
+  name = codes "chsh";
+  options = with_value "s" "shell" ∷ [];
+  rules = rule "-s is needed" (some_of (codes "s")) ∷ [];
+  is_for_lines = false;
+  statuses = chfn_statuses;
+}
 row_of Groupadd = record common_row {
   name = codes "groupadd";
   options = flag "f" "force"
@@ -199,6 +231,23 @@ row_of Gpasswd = record common_row {
   statuses = gpasswd_statuses;
   wrapper_names = codes "delete-password" ∷ [];
 }
+row_of Groupmems = record common_row {
+  name = codes "groupmems";
+  options = with_value "a" "add"
+      ∷ with_value "d" "delete"
+      ∷ with_value "g" "group"
+      ∷ flag "l" "list"
+      ∷ flag "p" "purge"
+      ∷ [];
+  least = 0;
+  most = 0;
+  rules = rule "-g is needed" (some_of (codes "g"))
+      ∷ rule "exactly one of -a, -d, -l and -p is needed" (exactly_one (codes "adlp"))
+      ∷ [];
+  is_for_lines = false;
+  reporting = where_given (codes "l") (Group ∷ []);
+  statuses = gpasswd_statuses;
+}
 row_of Chage = record common_row {
   name = codes "chage";
   options = with_value "d" "lastday"
@@ -215,17 +264,8 @@ row_of Chage = record common_row {
   wrapper_letters = codes "i";
   wrapper_names = codes "iso8601" ∷ [];
 }
-row_of Chpasswd = record common_row {
-  name = codes "chpasswd";
-  options = flag "e" "encrypted" ∷ [];
-  least = 0;
-  most = 0;
-  rules = rule "-e is needed" (some_of (codes "e")) ∷ [];
-  reads_input = true;
-  is_for_lines = false;
-  wrapper_letters = codes "c";
-  wrapper_names = codes "crypt-method" ∷ [];
-}
+row_of Chpasswd = record hashes_row { name = codes "chpasswd" }
+row_of Chgpasswd = record hashes_row { name = codes "chgpasswd" }
 row_of ChangePasswd = record common_row {
   name = codes "passwd";
   options = flag "d" "delete"

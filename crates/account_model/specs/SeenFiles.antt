@@ -7,7 +7,7 @@ use Rattle.acct_text.specs.declared.files.Files.{Files}
 use Rattle.acct_text.specs.Tables.{all_tables}
 use Rattle.acct_text.specs.SeenTables.{seen_through}
 use Rattle.account_model.specs.Rows.{Reporting, always, never, row_of, where_given}
-use Rattle.account_model.specs.Request.{Request, has_option, is_report}
+use Rattle.account_model.specs.Request.{Request, has_option, reports}
 
 -- the tables that a report reads
 abbrev pub reported_tables : Reporting → Request → List Tab
@@ -16,10 +16,11 @@ reported_tables (where_given letter tables) request = tables
 reported_tables (always letter tables others) request =
     if has_option letter request then tables else others
 
--- the tables that the command reads: a command that is no report reads all
+-- the tables that the command reads, also where it is planned: one that changes tables reads all
 abbrev pub read_tables : Request → List Tab
 read_tables request =
-    if is_report request then reported_tables (row_of request.tool).reporting request else all_tables
+    let reporting = (row_of request.tool).reporting
+    in if reports reporting request then reported_tables reporting request else all_tables
 
 -- the files as the command sees them
 abbrev pub seen_files : Request → Files → Files

@@ -4,11 +4,11 @@ use Rattle.account_model.specs.declared.option_form.OptionForm.{OptionForm as Fo
 use Rattle.account_model.specs.declared.option_form.OptionForm.TheVariants.{Flag, Value, ShortFlag}
 use Rattle.account_model.specs.declared.option_form.Rule.{Rule as RuleRow}
 use Rattle.account_model.specs.declared.option_form.Test.{Test as TestRow}
-use Rattle.account_model.specs.declared.option_form.Test.TheVariants.{NotBoth, OnlyWith, SomeOption, SomeOf, OneOf, Alone}
+use Rattle.account_model.specs.declared.option_form.Test.TheVariants.{NotBoth, OnlyWith, SomeOption, SomeOf, OneOf, ExactlyOne, Alone}
 use Rattle.account_model.specs.declared.row.Reporting.{Reporting as ReportingRow}
 use Rattle.account_model.specs.declared.row.Reporting.TheVariants.{Never, WhereGiven, Always}
 use Rattle.account_model.specs.declared.row.ToolRow.{ToolRow as Row}
-use Rattle.account_model.specs.Options.{OptionForm, Rule, Test, alone, not_both, one_of, only_with, some_of, some_option}
+use Rattle.account_model.specs.Options.{OptionForm, Rule, Test, alone, exactly_one, not_both, one_of, only_with, some_of, some_option}
 use Rattle.account_model.specs.Rows.{Reporting, ToolRow, always, never, where_given}
 
 -- an option (getopt_long(3), `struct option`)
@@ -26,6 +26,7 @@ test_of (OnlyWith first second) = only_with first second
 test_of SomeOption = some_option
 test_of (SomeOf letters) = some_of letters.now
 test_of (OneOf letters) = one_of letters.now
+test_of (ExactlyOne letters) = exactly_one letters.now
 test_of (Alone letters) = alone letters.now
 
 -- a rule

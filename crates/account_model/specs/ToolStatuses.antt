@@ -1,7 +1,7 @@
 -- The statuses that go by the tool, by the "EXIT VALUES" of useradd(8), usermod(8), userdel(8),
--- groupadd(8), groupmod(8), groupdel(8), gpasswd(1), chage(1), passwd(1), pwconv(8), pwck(8) and
--- grpck(8). Where the pages of a tool differ between versions or name no number, the number is this
--- profile's own.
+-- chfn(1), chsh(1), groupadd(8), groupmod(8), groupdel(8), gpasswd(1), chage(1), passwd(1),
+-- pwconv(8), pwck(8) and grpck(8). Where the pages of a tool differ between versions or name no
+-- number, the number is this profile's own.
 use Rattle.std.specs.Prelude.{ℕ}
 use Rattle.account_model.specs.declared.tool_statuses.ToolStatuses.{ToolStatuses}
 
@@ -84,6 +84,13 @@ common_statuses = record {
 abbrev pub user_statuses : ToolStatuses
 user_statuses = record common_statuses { multiple_groups = group_failure }
 
+-- chfn(1), chsh(1)
+abbrev pub chfn_statuses : ToolStatuses
+chfn_statuses = record common_statuses {
+  bad_value = general_failure;
+  no_user = general_failure;
+}
+
 -- groupadd(8), groupmod(8), groupdel(8)
 abbrev pub group_statuses : ToolStatuses
 group_statuses = record common_statuses {
@@ -94,7 +101,7 @@ group_statuses = record common_statuses {
   multiple = group_failure;
 }
 
--- gpasswd(1)
+-- gpasswd(1), groupmems(8)
 abbrev pub gpasswd_statuses : ToolStatuses
 gpasswd_statuses = record common_statuses { no_user = bad_argument; no_group = bad_argument }
 

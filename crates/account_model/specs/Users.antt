@@ -55,6 +55,10 @@ uid_of name files = option_map (λ user. user.uid) (find_user name files)
 abbrev pub passwd_field : List ℕ → Files → List ℕ
 passwd_field name files = unwrap_or (option_map (λ user. user.password) (find_user name files)) []
 
+-- the user's comment in passwd
+abbrev pub comment_of : List ℕ → Files → List ℕ
+comment_of name files = unwrap_or (option_map (λ user. user.comment) (find_user name files)) []
+
 -- the hash that counts: that of shadow, and without a record there the password field of passwd
 abbrev pub hash_of : List ℕ → Files → List ℕ
 hash_of name files =

@@ -3,7 +3,7 @@ use Rattle.std.specs.Prelude.{ℕ, is_some, Bool, ◌&&◌, ◌||◌, not, List,
 use Rattle.acct_text.specs.Bytes.{newline, colon, is_empty}
 use Rattle.acct_text.specs.Pieces.{cut_at}
 use Rattle.acct_text.specs.Numbers.{number_within}
-use Rattle.account_model.specs.Text.{comma, slash, has_byte, begins_with, nonempty, distinct}
+use Rattle.account_model.specs.Text.{comma, equals_sign, slash, has_byte, begins_with, nonempty, distinct}
 use Rattle.account_model.specs.Records.{greatest_days, read_id}
 use Rattle.account_model.specs.Dates.{read_day}
 use Rattle.account_model.specs.Request.{Request, value_of}
@@ -13,6 +13,11 @@ use Rattle.account_model.specs.Request.{Request, value_of}
 -- a comment or a hash: no `:` and no newline, which would end its field (passwd(5), shadow(5))
 abbrev pub is_field : List ℕ → Bool
 is_field text = not (has_byte colon text) && not (has_byte newline text)
+
+-- a part of a comment: a field with no `,`, which parts it from the next, and no `=` (chfn(1))
+abbrev pub is_comment_part : List ℕ → Bool
+is_comment_part text =
+    is_field text && not (has_byte comma text) && not (has_byte equals_sign text)
 
 -- a home or a base folder: a field that begins with `/` (useradd(8), `-d` and `-b`)
 abbrev pub is_folder : List ℕ → Bool

@@ -5,7 +5,7 @@ use Rattle.std.specs.List.{enumerate_from}
 use Rattle.account_model.specs.declared.words_of.WordsOf.{WordsOf}
 use Rattle.account_model.specs.declared.words_of.WordsOf.TheVariants.{Command, Line}
 use Rattle.account_model.specs.declared.tool.Tool.{Tool}
-use Rattle.account_model.specs.declared.tool.Tool.TheVariants.{Useradd, Usermod, Userdel, Groupadd, Groupmod, Groupdel, Gpasswd, Chage, Chpasswd, Passwd, Pwconv, Pwunconv, Grpconv, Grpunconv, Pwck, Grpck, Getsubids, Batch}
+use Rattle.account_model.specs.declared.tool.Tool.TheVariants.{Useradd, Usermod, Userdel, Chfn, Chsh, Groupadd, Groupmod, Groupdel, Gpasswd, Groupmems, Chage, Chpasswd, Chgpasswd, Passwd, Pwconv, Pwunconv, Grpconv, Grpunconv, Pwck, Grpck, Getsubids, Batch}
 use Rattle.account_model.specs.declared.word_fault.WordFault.{WordFault}
 use Rattle.account_model.specs.declared.word_fault.WordFault.TheVariants.{WordLimit, NoTool, UnknownTool, NoPrefix, EmptyPrefix, TooFew, Clash}
 use Rattle.account_model.specs.Text.{last_of}
@@ -13,7 +13,9 @@ use Rattle.account_model.specs.Options.{Word}
 use Rattle.account_model.specs.Rows.{row_of}
 use Rattle.account_model.specs.ToolOptions.{is_prefix, options_for, operands_of, most_operands}
 use Rattle.account_model.specs.declared.given.Given.{Given}
-use Rattle.account_model.specs.Request.{Request}
+use Rattle.account_model.specs.declared.plan_form.PlanForm.{PlanForm}
+use Rattle.account_model.specs.PlanWords.{command_words, plan_of}
+use Rattle.account_model.specs.Request.{Request, carried_out}
 use Rattle.account_model.specs.Spelling.{Spelled, Arguments, read_arguments}
 
 -- the word that names the tool
@@ -22,8 +24,8 @@ tool_name tool = (row_of tool).name
 
 -- the tools, in the order of the enum
 abbrev pub tools : List Tool
-tools = Useradd ∷ Usermod ∷ Userdel ∷ Groupadd ∷ Groupmod ∷ Groupdel ∷ Gpasswd
-    ∷ Chage ∷ Chpasswd ∷ Passwd ∷ Pwconv ∷ Pwunconv ∷ Grpconv ∷ Grpunconv
+tools = Useradd ∷ Usermod ∷ Userdel ∷ Chfn ∷ Chsh ∷ Groupadd ∷ Groupmod ∷ Groupdel ∷ Gpasswd
+    ∷ Groupmems ∷ Chage ∷ Chpasswd ∷ Chgpasswd ∷ Passwd ∷ Pwconv ∷ Pwunconv ∷ Grpconv ∷ Grpunconv
     ∷ Pwck ∷ Grpck ∷ Getsubids ∷ Batch ∷ []
 
 -- the tool that a word names
@@ -82,7 +84,7 @@ abbrev pub IsPrefix : WordsOf → Tool → List Given → Word → Type 0
 IsPrefix Command tool given prefix = (prefix_value tool given ≡ Some prefix) × (prefix ≢ [])
 IsPrefix Line tool given prefix = prefix ≡ []
 
--- such words ask for this request
+-- such words ask for this request, which is carried out
 pub record AsksAs (whose : WordsOf) (words : List Word) (request : Request) : Type 0 where
   -- they keep the limits
   pub limits : past_limit words ≡ None
@@ -99,10 +101,12 @@ pub record AsksAs (whose : WordsOf) (words : List Word) (request : Request) : Ty
   -- no rule is broken
   pub options : request.options ≡ without_prefix request.tool given
   pub rules : broken_rule request.tool request.options ≡ None
+  pub plan : request.plan ≡ None
 
--- the words of a command ask for this request
-abbrev pub Asks : List Word → Request → Type 0
-Asks = AsksAs Command
+-- the words of a command ask for this request: those behind `plan` ask for the command that is planned
+pub record Asks (words : List Word) (request : Request) : Type 0 where
+  pub command : AsksAs Command (command_words words) (carried_out request)
+  pub plan : request.plan ≡ plan_of words
 
 -- the words of a line of a batch ask for this request
 abbrev pub AsksLine : List Word → Request → Type 0
@@ -129,7 +133,13 @@ request_with tool options operands (Err fault) = Err fault
 request_with tool options operands (Ok prefix) =
     if nat_lt (length operands) (operands_of tool) then Err TooFew else
     request_by_rules (broken_rule tool options)
-    (record { tool = tool; prefix = prefix; options = options; operands = operands })
+    (record {
+      tool = tool;
+      prefix = prefix;
+      options = options;
+      operands = operands;
+      plan = None;
+    })
 
 -- a request of a tool from what is read behind its name
 abbrev pub request_of_arguments : WordsOf → Tool → Result Arguments WordFault →
@@ -167,17 +177,22 @@ request_by_limit whose None words = request_within_limits whose words
 abbrev pub request_as : WordsOf → List Word → Result Request WordFault
 request_as whose words = request_by_limit whose (past_limit words) words
 
+-- what was read of a command's words, as it is planned
+abbrev pub planned_so : Option PlanForm → Result Request WordFault → Result Request WordFault
+planned_so plan (Ok request) = Ok (record request { plan = plan })
+planned_so plan (Err fault) = Err fault
+
 -- the request that the words of a command ask for, or the first fault
 abbrev pub request_of : List Word → Result Request WordFault
-request_of = request_as Command
+request_of words = planned_so (plan_of words) (request_as Command (command_words words))
 
 -- the first fault of such words, if there is one
 abbrev pub fault_as : WordsOf → List Word → Option WordFault
 fault_as whose words = elim (request_as whose words) [ Ok request ↦ None | Err found ↦ Some found ]
 
--- the first fault of a command's words
+-- the first fault of a command's words, in which places count from the words behind `plan`
 abbrev pub fault : List Word → Option WordFault
-fault = fault_as Command
+fault words = fault_as Command (command_words words)
 
 -- the first fault of the words of a line of a batch
 abbrev pub fault_line : List Word → Option WordFault

@@ -29,6 +29,8 @@ pub enum Test {
     SomeOf(&'static [u8]),
     /// At most one of these. An option that is given twice counts once.
     OneOf(&'static [u8]),
+    /// One of these, and no second one. An option that is given twice counts once.
+    ExactlyOne(&'static [u8]),
     /// Each of these with no other option.
     Alone(&'static [u8]),
 }

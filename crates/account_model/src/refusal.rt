@@ -1,7 +1,7 @@
 //! Why a tool refuses. The texts stand in `specs/Messages`, the statuses in `specs/Statuses`.
 use acct_text::{Bytes, Tab};
 
-/// What is wrong with a line of the input of chpasswd(8).
+/// What is wrong with a line of the input of chpasswd(8) or chgpasswd(8).
 #[derive(Drop)]
 pub enum LineProblem {
     /// The line has no `:`.
@@ -10,6 +10,8 @@ pub enum LineProblem {
     HashColon,
     /// The user of this name isn't in passwd.
     UnknownUser(Bytes),
+    /// The group of this name isn't in group.
+    UnknownGroup(Bytes),
     /// The line ends in a carriage return, which no hash of crypt(5) has.
     LineEnd,
 }

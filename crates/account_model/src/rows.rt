@@ -1,9 +1,9 @@
 // The row of each tool (its manual page).
 use crate::OptionForm::{Flag, ShortFlag, Value};
-use crate::Test::{Alone, NotBoth, OneOf, OnlyWith, SomeOf, SomeOption};
+use crate::Test::{Alone, ExactlyOne, NotBoth, OneOf, OnlyWith, SomeOf, SomeOption};
 use crate::tool_statuses::{
-    CHAGE_STATUSES, CHECK_STATUSES, COMMON_STATUSES, CONVERSION_STATUSES, GETSUBIDS_STATUSES,
-    GPASSWD_STATUSES, GROUP_STATUSES, PASSWD_STATUSES, USER_STATUSES,
+    CHAGE_STATUSES, CHECK_STATUSES, CHFN_STATUSES, COMMON_STATUSES, CONVERSION_STATUSES,
+    GETSUBIDS_STATUSES, GPASSWD_STATUSES, GROUP_STATUSES, PASSWD_STATUSES, USER_STATUSES,
 };
 use crate::{Reporting, Rule, ToolRow};
 use acct_text::Tab;
@@ -147,6 +147,34 @@ pub(crate) static USERDEL: ToolRow = ToolRow {
     ..COMMON
 };
 
+// The options stand in the order of the parts of a comment.
+pub(crate) static CHFN: ToolRow = ToolRow {
+    name: "chfn",
+    options: &[
+        Value(b'f', "full-name"),
+        Value(b'r', "room"),
+        Value(b'w', "work-phone"),
+        Value(b'h', "home-phone"),
+        Value(b'o', "other"),
+    ],
+    rules: &[WANTS_OPTION],
+    is_for_lines: false,
+    statuses: CHFN_STATUSES,
+    ..COMMON
+};
+
+pub(crate) static CHSH: ToolRow = ToolRow {
+    name: "chsh",
+    options: &[Value(b's', "shell")],
+    rules: &[Rule {
+        text: "-s is needed",
+        test: SomeOf(b"s"),
+    }],
+    is_for_lines: false,
+    statuses: CHFN_STATUSES,
+    ..COMMON
+};
+
 pub(crate) static GROUPADD: ToolRow = ToolRow {
     name: "groupadd",
     options: &[
@@ -215,6 +243,33 @@ pub(crate) static GPASSWD: ToolRow = ToolRow {
     ..COMMON
 };
 
+pub(crate) static GROUPMEMS: ToolRow = ToolRow {
+    name: "groupmems",
+    options: &[
+        Value(b'a', "add"),
+        Value(b'd', "delete"),
+        Value(b'g', "group"),
+        Flag(b'l', "list"),
+        Flag(b'p', "purge"),
+    ],
+    least: 0,
+    most: 0,
+    rules: &[
+        Rule {
+            text: "-g is needed",
+            test: SomeOf(b"g"),
+        },
+        Rule {
+            text: "exactly one of -a, -d, -l and -p is needed",
+            test: ExactlyOne(b"adlp"),
+        },
+    ],
+    is_for_lines: false,
+    reporting: Reporting::WhereGiven(b'l', &[Tab::Group]),
+    statuses: GPASSWD_STATUSES,
+    ..COMMON
+};
+
 pub(crate) static CHAGE: ToolRow = ToolRow {
     name: "chage",
     options: &[
@@ -240,8 +295,8 @@ pub(crate) static CHAGE: ToolRow = ToolRow {
     ..COMMON
 };
 
-pub(crate) static CHPASSWD: ToolRow = ToolRow {
-    name: "chpasswd",
+// Sets hashes from lines of the input, and has no operand (chpasswd(8), chgpasswd(8)).
+const SETS_HASHES: ToolRow = ToolRow {
     options: &[Flag(b'e', "encrypted")],
     least: 0,
     most: 0,
@@ -254,6 +309,16 @@ pub(crate) static CHPASSWD: ToolRow = ToolRow {
     wrapper_letters: b"c",
     wrapper_names: &["crypt-method"],
     ..COMMON
+};
+
+pub(crate) static CHPASSWD: ToolRow = ToolRow {
+    name: "chpasswd",
+    ..SETS_HASHES
+};
+
+pub(crate) static CHGPASSWD: ToolRow = ToolRow {
+    name: "chgpasswd",
+    ..SETS_HASHES
 };
 
 pub(crate) static PASSWD: ToolRow = ToolRow {

@@ -15,6 +15,10 @@ pub enum Tool {
     Usermod,
     /// Removes a user (userdel(8)).
     Userdel,
+    /// Changes the parts of a user's comment (chfn(1)).
+    Chfn,
+    /// Changes a user's shell (chsh(1)).
+    Chsh,
     /// Adds a group (groupadd(8)).
     Groupadd,
     /// Changes a group (groupmod(8)).
@@ -23,10 +27,14 @@ pub enum Tool {
     Groupdel,
     /// Changes the hash, the administrators and the members of a group (gpasswd(1)).
     Gpasswd,
+    /// Changes or lists the members of a group (groupmems(8)).
+    Groupmems,
     /// Changes or lists the aging of a user's hash (chage(1)).
     Chage,
     /// Sets the hashes of many users (chpasswd(8)).
     Chpasswd,
+    /// Sets the hashes of many groups (chgpasswd(8)).
+    Chgpasswd,
     /// Locks, unlocks, empties or ages a user's password, or shows its state (passwd(1)).
     Passwd,
     /// Moves the hashes of users to shadow (pwconv(8)).
@@ -49,19 +57,23 @@ pub enum Tool {
 
 impl Tool {
     /// The tools in the order of the enum.
-    pub fn all() -> [Tool; 18]
+    pub fn all() -> [Tool; 22]
         ensures { result ≡ tools }
     {
         [
             Tool::Useradd,
             Tool::Usermod,
             Tool::Userdel,
+            Tool::Chfn,
+            Tool::Chsh,
             Tool::Groupadd,
             Tool::Groupmod,
             Tool::Groupdel,
             Tool::Gpasswd,
+            Tool::Groupmems,
             Tool::Chage,
             Tool::Chpasswd,
+            Tool::Chgpasswd,
             Tool::Passwd,
             Tool::Pwconv,
             Tool::Pwunconv,
@@ -82,12 +94,16 @@ impl Tool {
             Tool::Useradd => &rows::USERADD,
             Tool::Usermod => &rows::USERMOD,
             Tool::Userdel => &rows::USERDEL,
+            Tool::Chfn => &rows::CHFN,
+            Tool::Chsh => &rows::CHSH,
             Tool::Groupadd => &rows::GROUPADD,
             Tool::Groupmod => &rows::GROUPMOD,
             Tool::Groupdel => &rows::GROUPDEL,
             Tool::Gpasswd => &rows::GPASSWD,
+            Tool::Groupmems => &rows::GROUPMEMS,
             Tool::Chage => &rows::CHAGE,
             Tool::Chpasswd => &rows::CHPASSWD,
+            Tool::Chgpasswd => &rows::CHGPASSWD,
             Tool::Passwd => &rows::PASSWD,
             Tool::Pwconv => &rows::PWCONV,
             Tool::Pwunconv => &rows::PWUNCONV,

@@ -87,6 +87,13 @@ pub(crate) const USER_STATUSES: ToolStatuses = ToolStatuses {
     ..COMMON_STATUSES
 };
 
+/// chfn(1), chsh(1).
+pub(crate) const CHFN_STATUSES: ToolStatuses = ToolStatuses {
+    bad_value: GENERAL_FAILURE,
+    no_user: GENERAL_FAILURE,
+    ..COMMON_STATUSES
+};
+
 /// groupadd(8), groupmod(8), groupdel(8).
 pub(crate) const GROUP_STATUSES: ToolStatuses = ToolStatuses {
     lock: GROUP_FAILURE,
@@ -97,7 +104,7 @@ pub(crate) const GROUP_STATUSES: ToolStatuses = ToolStatuses {
     ..COMMON_STATUSES
 };
 
-/// gpasswd(1).
+/// gpasswd(1), groupmems(8).
 pub(crate) const GPASSWD_STATUSES: ToolStatuses = ToolStatuses {
     no_user: BAD_ARGUMENT,
     no_group: BAD_ARGUMENT,

@@ -12,6 +12,7 @@ use Rattle.table_edits.specs.Stopping.{StopsBy}
 use Rattle.std.specs.Prelude.{Option, Some, None, option_map}
 use Rattle.acct_text.specs.declared.files.Files.{Files}
 use Rattle.acct_text.specs.Lines.{Line, texts_of}
+use Rattle.account_model.specs.declared.hashes_of.HashesOf.{HashesOf}
 use Rattle.account_model.specs.declared.refusal.LineProblem.{LineProblem}
 use Rattle.account_model.specs.declared.refusal.Refusal.{Refusal}
 use Rattle.account_model.specs.declared.refusal.Refusal.TheVariants.{BadLine}
@@ -26,8 +27,8 @@ abbrev pub text_line : List ℕ → Line
 text_line text = record { text = text; ended = true }
 
 -- the first bad line of these texts
-abbrev pub bad_text_from : ℕ → Files → List (List ℕ) → Option Refusal
-bad_text_from number files texts = bad_line_from number files (map text_line texts)
+abbrev pub bad_text_from : HashesOf → ℕ → Files → List (List ℕ) → Option Refusal
+bad_text_from whose number files texts = bad_line_from whose number files (map text_line texts)
 
 -- what is refused by the first line, else by those behind it
 abbrev pub refused_by : ℕ → Option LineProblem → Option Refusal → Option Refusal
@@ -38,11 +39,12 @@ refused_by number problem behind = elim problem [
 
 -- only the texts of lines count
 pub bad-by-text :
-    (number : ℕ) (files : Files) (lines : List Line)
-    → bad_line_from number files lines ≡ bad_text_from number files (texts_of lines)
-bad-by-text number files [] = refl
-bad-by-text number files (line ∷ lines) =
-    ap (refused_by number (line_problem files line.text)) (bad-by-text (suc number) files lines)
+    (whose : HashesOf) (number : ℕ) (files : Files) (lines : List Line)
+    → bad_line_from whose number files lines ≡ bad_text_from whose number files (texts_of lines)
+bad-by-text whose number files [] = refl
+bad-by-text whose number files (line ∷ lines) =
+    ap (refused_by number (line_problem whose files line.text))
+    (bad-by-text whose (suc number) files lines)
 
 -- the refusal of a line, by its problem
 goes-on-by :
@@ -61,19 +63,22 @@ stops-by number (Some found) behind refusal bad = bad
 
 -- a good line leaves it to those behind it
 pub goes-on :
-    (number : ℕ) (files : Files) (text : List ℕ) (texts : List (List ℕ))
-    → line_refusal files number text ≡ None
-    → bad_text_from number files (text ∷ texts) ≡ bad_text_from (suc number) files texts
-goes-on number files text texts good =
-    goes-on-by number (line_problem files text) (bad_text_from (suc number) files texts) good
+    (whose : HashesOf) (number : ℕ) (files : Files) (text : List ℕ) (texts : List (List ℕ))
+    → line_refusal whose files number text ≡ None
+    → bad_text_from whose number files (text ∷ texts) ≡ bad_text_from whose (suc number) files texts
+goes-on whose number files text texts good =
+    goes-on-by number (line_problem whose files text) (bad_text_from whose (suc number) files texts)
+    good
 
 -- a bad line is refused
 pub stops :
-    (number : ℕ) (files : Files) (text : List ℕ) (texts : List (List ℕ)) (refusal : Refusal)
-    → line_refusal files number text ≡ Some refusal
-    → bad_text_from number files (text ∷ texts) ≡ Some refusal
-stops number files text texts refusal bad =
-    stops-by number (line_problem files text) (bad_text_from (suc number) files texts) refusal bad
+    (whose : HashesOf) (number : ℕ) (files : Files) (text : List ℕ) (texts : List (List ℕ))
+    (refusal : Refusal)
+    → line_refusal whose files number text ≡ Some refusal
+    → bad_text_from whose number files (text ∷ texts) ≡ Some refusal
+stops whose number files text texts refusal bad =
+    stops-by number (line_problem whose files text) (bad_text_from whose (suc number) files texts)
+    refusal bad
 
 -- a fault that is handed on stops as it did
 pub handed-stops :
@@ -87,7 +92,7 @@ handed-stops {X} refusal (Err found) fault handed is =
 
 -- ---- The places of the lines
 
-module _ (input : List ℕ) (places : List (ℕ × ℕ)) (index : ℕ) where
+module _ (whose : HashesOf) (input : List ℕ) (places : List (ℕ × ℕ)) (index : ℕ) where
   -- the text of the line at this index
   abbrev pub text_at : List ℕ
   text_at = part_of input (get_or places index (0, 0))
@@ -121,53 +126,56 @@ module _ (input : List ℕ) (places : List (ℕ × ℕ)) (index : ℕ) where
   pub good-more :
       (files : Files) (first : Option Refusal)
       → index < length places
-      → first ≡ bad_text_from (index + 1) files (map (part_of input) (drop index places))
-      → line_refusal files (index + 1) text_at ≡ None
-      → first ≡ bad_text_from (index + 1 + 1) files (map (part_of input) (drop (index + 1) places))
+      → first ≡ bad_text_from whose (index + 1) files (map (part_of input) (drop index places))
+      → line_refusal whose files (index + 1) text_at ≡ None
+      → first ≡ bad_text_from whose (index + 1 + 1) files
+      (map (part_of input) (drop (index + 1) places))
   good-more files first inside is good =
-      is ∙ ap (bad_text_from (index + 1) files) (texts-from inside)
-      ∙ goes-on (index + 1) files text_at (map (part_of input) (drop (index + 1) places)) good
-      ∙ ap (λ n. bad_text_from n files (map (part_of input) (drop (index + 1) places)))
+      is ∙ ap (bad_text_from whose (index + 1) files) (texts-from inside)
+      ∙ goes-on whose (index + 1) files text_at (map (part_of input) (drop (index + 1) places)) good
+      ∙ ap (λ n. bad_text_from whose n files (map (part_of input) (drop (index + 1) places)))
       (sym (add-one (index + 1)))
 
   -- where this line is bad, it is the first
   pub stops-more :
       (files : Files) (first : Option Refusal) (fault : ToolFault)
       → index < length places
-      → first ≡ bad_text_from (index + 1) files (map (part_of input) (drop index places))
-      → StopsBy {X = NewHash} (line_refusal files (index + 1) text_at) (Err fault)
+      → first ≡ bad_text_from whose (index + 1) files (map (part_of input) (drop index places))
+      → StopsBy {X = NewHash} (line_refusal whose files (index + 1) text_at) (Err fault)
       → StopsBy {X = Vec NewHash Global} first (Err fault)
   stops-more files first Memory inside is bad = tt
   stops-more files first (Refused refusal) inside is bad =
-      is ∙ ap (bad_text_from (index + 1) files) (texts-from inside)
-      ∙ stops (index + 1) files text_at (map (part_of input) (drop (index + 1) places)) refusal bad
+      is ∙ ap (bad_text_from whose (index + 1) files) (texts-from inside)
+      ∙ stops whose (index + 1) files text_at (map (part_of input) (drop (index + 1) places))
+      refusal bad
 
 -- ---- What the lines do
 
 -- by what was read
 scripts-seen :
-    (files : Files) (day : ℕ) (hashes : List NewHash)
-    → map (λ hash. hash_script files day (seen_line hash)) hashes
-    ≡ map (hash_script files day) (map seen_line hashes)
-scripts-seen files day [] = refl
-scripts-seen files day (hash ∷ hashes) =
-    ap (λ scripts. hash_script files day (seen_line hash) ∷ scripts) (scripts-seen files day hashes)
+    (whose : HashesOf) (files : Files) (day : ℕ) (hashes : List NewHash)
+    → map (λ hash. hash_script whose files day (seen_line hash)) hashes
+    ≡ map (hash_script whose files day) (map seen_line hashes)
+scripts-seen whose files day [] = refl
+scripts-seen whose files day (hash ∷ hashes) =
+    ap (λ scripts. hash_script whose files day (seen_line hash) ∷ scripts)
+    (scripts-seen whose files day hashes)
 
 -- by the texts
 scripts-texts :
-    (files : Files) (day : ℕ) (lines : List Line)
-    → map (hash_script files day) (map hash_line (texts_of lines))
-    ≡ map (line_script files day) lines
-scripts-texts files day [] = refl
-scripts-texts files day (line ∷ lines) =
-    ap (λ scripts. line_script files day line ∷ scripts) (scripts-texts files day lines)
+    (whose : HashesOf) (files : Files) (day : ℕ) (lines : List Line)
+    → map (hash_script whose files day) (map hash_line (texts_of lines))
+    ≡ map (line_script whose files day) lines
+scripts-texts whose files day [] = refl
+scripts-texts whose files day (line ∷ lines) =
+    ap (λ scripts. line_script whose files day line ∷ scripts) (scripts-texts whose files day lines)
 
 -- the scripts of the lines that were read are those of the lines
 pub scripts-read :
-    (files : Files) (day : ℕ) (hashes : List NewHash) (lines : List Line)
+    (whose : HashesOf) (files : Files) (day : ℕ) (hashes : List NewHash) (lines : List Line)
     → map seen_line hashes ≡ map hash_line (texts_of lines)
-    → map (λ hash. hash_script files day (seen_line hash)) hashes
-    ≡ map (line_script files day) lines
-scripts-read files day hashes lines read =
-    scripts-seen files day hashes ∙ ap (map (hash_script files day)) read
-    ∙ scripts-texts files day lines
+    → map (λ hash. hash_script whose files day (seen_line hash)) hashes
+    ≡ map (line_script whose files day) lines
+scripts-read whose files day hashes lines read =
+    scripts-seen whose files day hashes ∙ ap (map (hash_script whose files day)) read
+    ∙ scripts-texts whose files day lines

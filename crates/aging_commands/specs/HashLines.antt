@@ -1,7 +1,8 @@
--- The lines of the input of chpasswd(8), each NAME:HASH.
+-- The lines of the input of chpasswd(8) and chgpasswd(8), each NAME:HASH.
 use Rattle.std.specs.Prelude.{◌≡◌, ℕ, true, false, List, Option, Some, None, option_map}
 use Rattle.acct_text.specs.declared.files.Files.{Files}
 use Rattle.acct_text.specs.Bytes.{colon}
+use Rattle.account_model.specs.declared.hashes_of.HashesOf.{HashesOf}
 use Rattle.account_model.specs.declared.refusal.Refusal.{Refusal}
 use Rattle.account_model.specs.declared.refusal.Refusal.TheVariants.{BadLine}
 use Rattle.account_model.specs.Chpasswd.{line_hash, line_name, line_problem, set_hash}
@@ -9,7 +10,7 @@ use Rattle.account_model.specs.Tables.{Script}
 use Rattle.account_model.specs.Text.{has_byte}
 use Rattle.aging_commands.specs.declared.hash_lines.NewHash.{NewHash}
 
--- a user and the new hash
+-- a user or a group, and the new hash
 pub record HashLine : Type 0 where
   pub name : List ℕ
   pub hash : List ℕ
@@ -22,15 +23,15 @@ hash_line text = record { name = line_name text; hash = line_hash text }
 abbrev pub seen_line : NewHash → HashLine
 seen_line new = record { name = new.name.now; hash = new.hash.now }
 
--- a line is cut into the user and the hash where it has a `:`, and else not
+-- a line is cut into the name and the hash where it has a `:`, and else not
 abbrev pub IsCut : List ℕ → Option NewHash → Type 0
 IsCut text None = has_byte colon text ≡ false
 IsCut text (Some new) = (has_byte colon text ≡ true) × (seen_line new ≡ hash_line text)
 
 -- the refusal of the line of this number, where something is wrong with it
-abbrev pub line_refusal : Files → ℕ → List ℕ → Option Refusal
-line_refusal files number text = option_map (BadLine number) (line_problem files text)
+abbrev pub line_refusal : HashesOf → Files → ℕ → List ℕ → Option Refusal
+line_refusal whose files number text = option_map (BadLine number) (line_problem whose files text)
 
 -- what a line does
-abbrev pub hash_script : Files → ℕ → HashLine → Script
-hash_script files day line = set_hash line.name line.hash files day
+abbrev pub hash_script : HashesOf → Files → ℕ → HashLine → Script
+hash_script whose files day line = set_hash whose line.name line.hash files day

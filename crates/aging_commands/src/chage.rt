@@ -7,7 +7,7 @@ ghost use Rattle.account_model.specs.Text.{first_some};
 ghost use Rattle.account_model.specs.Users.{aging_of};
 ghost use Rattle.account_model.specs.Values.{date_value, days_value};
 ghost use Rattle.tool_answers.specs.Refusing.{RefusesBy};
-ghost use Rattle.table_edits.specs.Acting.{ActsBy, IsReportOf};
+ghost use Rattle.table_edits.specs.Acting.{ActsBy, IsOutputOf};
 ghost use Rattle.table_edits.specs.SeenScript.{seen_script};
 ghost use Rattle.table_edits.specs.Stopping.{StopsBy};
 ghost use Rattle.line_edits.specs.ShadowChanges.{given_days};
@@ -15,11 +15,12 @@ ghost use Rattle.aging_commands.specs.AgingFields.{SetsAging};
 
 use crate::listing::aging_report;
 use account_model::Refusal;
-use acct_text::{Bytes, Names};
+use acct_text::Bytes;
 use command_values::{Asked, Form, ToolFault, read_date, read_days};
 use line_edits::{DaysChange, ShadowAct, ShadowFields};
 use std::alloc::{AllocError, Global};
-use table_edits::{Report, Script, Tables, demand_shadow, hash_alone};
+use table_edits::{Script, Tables, demand_shadow, hash_alone};
+use tool_answers::Output;
 
 /// The script that sets the fields of the user's record in shadow; `-l` changes nothing.
 ///
@@ -36,17 +37,13 @@ pub fn chage(alloc: Global, asked: &Asked, tables: &Tables) -> Result<Script, To
 }
 
 /// What chage prints: with `-l` the aging of the user, and else nothing.
-pub fn chage_report(alloc: Global, asked: &Asked, tables: &Tables) -> Result<Report, AllocError>
-    ensures { IfOk result (IsReportOf (chage asked.now tables.now)) }
+pub fn chage_output(alloc: Global, asked: &Asked, tables: &Tables) -> Result<Output, AllocError>
+    ensures { IfOk result (IsOutputOf asked.now.tool (chage asked.now tables.now)) }
 {
     if !asked.has(b'l') {
-        return Ok(Report::silent(alloc));
+        return Ok(Output::silent(alloc));
     }
-    Ok(Report {
-        status: 0,
-        out: aging_of(alloc, tables, asked.operand())?,
-        notices: Names::new(alloc),
-    })
+    Ok(Output::shown(alloc, aging_of(alloc, tables, asked.operand())?))
 }
 
 // Tests the refusals in their order.

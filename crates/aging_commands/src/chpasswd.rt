@@ -1,7 +1,8 @@
-// chpasswd -e (chpasswd(8)): sets the hashes of users, from lines NAME:HASH of the input.
+// chpasswd -e and chgpasswd -e (chpasswd(8), chgpasswd(8)): set the hashes of users and of groups, from
+// lines NAME:HASH of the input.
 ghost use Rattle.std.specs.Prelude.{◌≡◌, ◌≤◌, length, map, IfOk, OnOk};
 ghost use Rattle.acct_text.specs.Limits.{table_limit};
-ghost use Rattle.account_model.specs.Chpasswd.{chpasswd, set_hash};
+ghost use Rattle.account_model.specs.Chpasswd.{set_hashes, set_user_hash};
 ghost use Rattle.account_model.specs.Tables.{in_order};
 ghost use Rattle.table_edits.specs.Acting.{ActsBy};
 ghost use Rattle.table_edits.specs.Additions.{HasAlso};
@@ -9,53 +10,80 @@ ghost use Rattle.table_edits.specs.SeenScript.{seen_script};
 ghost use Rattle.aging_commands.specs.HashLines.{hash_script, seen_line};
 
 use crate::hash_lines::{NewHash, read_hashes};
+use account_model::HashesOf;
 use acct_text::Bytes;
 use command_values::ToolFault;
 use line_edits::{HashChange, ShadowAct};
 use std::alloc::{AllocError, Global};
-use table_edits::{Script, Tables, change_user_hash, demand_shadow};
+use table_edits::{Script, Tables, change_user_hash, demand_shadow, set_group_hash};
 
-/// The script that sets the hashes of the users, and with shadow their last change to the day.
+/// The script that sets the hashes of the users, and with shadow their last change to the day, or those of
+/// the groups.
 ///
 /// `BadLine` refuses the whole input where one of its lines is bad: the first, counted from 1.
-pub fn chpasswd(alloc: Global, input: &[u8], tables: &Tables, day: u32) -> Result<Script, ToolFault>
+pub fn set_hashes(
+    alloc: Global,
+    whose: HashesOf,
+    input: &[u8],
+    tables: &Tables,
+    day: u32,
+) -> Result<Script, ToolFault>
     requires { length input.now ≤ table_limit }
-    ensures { ActsBy (chpasswd input.now tables.now day) result }
+    ensures { ActsBy (set_hashes whose input.now tables.now day) result }
 {
-    let hashes = read_hashes(alloc, input, tables)?;
-    Ok(new_hashes(alloc, &hashes, tables, day)?)
+    let hashes = read_hashes(alloc, whose, input, tables)?;
+    Ok(new_hashes(alloc, whose, &hashes, tables, day)?)
 }
 
 // The edits of the lines, in their order.
 fn new_hashes(
     alloc: Global,
+    whose: HashesOf,
     hashes: &[NewHash],
     tables: &Tables,
     day: u32,
 ) -> Result<Script, AllocError>
     ensures { IfOk result (λ script. seen_script script
-        ≡ in_order (map (λ hash. hash_script tables.now day (seen_line hash)) hashes.now)) }
+        ≡ in_order (map (λ hash. hash_script whose tables.now day (seen_line hash)) hashes.now)) }
 {
     let mut script = Script::new(alloc);
     'hashes: for hash in hashes {
-        set_hash(alloc, &mut script, hash, tables, day)?;
+        set_hash(alloc, &mut script, whose, hash, tables, day)?;
     }
     Ok(script)
 }
 
-// The line of shadow on demand, then the hash, then the last change.
+// What a line does.
 fn set_hash(
     alloc: Global,
     script: &mut Script,
-    hash: &NewHash,
+    whose: HashesOf,
+    new: &NewHash,
     tables: &Tables,
     day: u32,
 ) -> Result<(), AllocError>
     ensures { OnOk result
-        (HasAlso (hash_script tables.now day (seen_line hash.now)) script.old script.new) }
+        (HasAlso (hash_script whose tables.now day (seen_line new.now)) script.old script.new) }
 {
-    let change = HashChange::Set(Bytes::of(alloc, hash.hash)?);
-    demand_shadow(alloc, script, tables, hash.name)?;
-    change_user_hash(alloc, script, tables, hash.name, change)?;
-    script.change_shadow(alloc, hash.name, ShadowAct::SetLastChange(day))
+    match whose {
+        HashesOf::Users => set_user_hash(alloc, script, new, tables, day),
+        HashesOf::Groups => set_group_hash(alloc, script, tables, new.name, new.hash),
+    }
+}
+
+// The line of shadow on demand, then the hash, then the last change.
+fn set_user_hash(
+    alloc: Global,
+    script: &mut Script,
+    new: &NewHash,
+    tables: &Tables,
+    day: u32,
+) -> Result<(), AllocError>
+    ensures { OnOk result (HasAlso
+        (set_user_hash new.now.name.now new.now.hash.now tables.now day) script.old script.new) }
+{
+    let change = HashChange::Set(Bytes::of(alloc, new.hash)?);
+    demand_shadow(alloc, script, tables, new.name)?;
+    change_user_hash(alloc, script, tables, new.name, change)?;
+    script.change_shadow(alloc, new.name, ShadowAct::SetLastChange(day))
 }

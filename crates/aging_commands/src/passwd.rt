@@ -8,7 +8,7 @@ ghost use Rattle.account_model.specs.Text.{first_some};
 ghost use Rattle.account_model.specs.Users.{passwd_field};
 ghost use Rattle.account_model.specs.Passwd.{opens_freely, passwd, passwd_refusals, passwd_script, password_after, password_status, set_password_aging, sets_password_aging};
 ghost use Rattle.tool_answers.specs.Refusing.{RefusesBy};
-ghost use Rattle.table_edits.specs.Acting.{ActsBy, IsReportOf};
+ghost use Rattle.table_edits.specs.Acting.{ActsBy, IsOutputOf};
 ghost use Rattle.table_edits.specs.Additions.{HasAlso};
 ghost use Rattle.table_edits.specs.SeenScript.{seen_script};
 ghost use Rattle.table_edits.specs.Stopping.{StopsBy};
@@ -19,11 +19,12 @@ ghost use Rattle.aging_commands.specs.AgingFields.{SetsPasswordAging, counting_r
 use crate::chage::days;
 use crate::status::status_line;
 use account_model::{Refusal, ShadowRecord};
-use acct_text::{Bytes, Names};
+use acct_text::Bytes;
 use command_values::{Asked, Form, ToolFault};
 use line_edits::{DaysChange, HashChange, ShadowAct, ShadowFields};
 use std::alloc::{AllocError, Global};
-use table_edits::{Report, Script, Tables, change_user_hash, demand_shadow, hash_alone};
+use table_edits::{Script, Tables, change_user_hash, demand_shadow, hash_alone};
+use tool_answers::Output;
 
 /// The script that changes the hash and the aging of the user; `-S` changes nothing.
 ///
@@ -40,17 +41,13 @@ pub fn passwd(alloc: Global, asked: &Asked, tables: &Tables) -> Result<Script, T
 }
 
 /// What passwd prints: with `-S` the state of the user's password, and else nothing.
-pub fn passwd_report(alloc: Global, asked: &Asked, tables: &Tables) -> Result<Report, AllocError>
-    ensures { IfOk result (IsReportOf (passwd asked.now tables.now)) }
+pub fn passwd_output(alloc: Global, asked: &Asked, tables: &Tables) -> Result<Output, AllocError>
+    ensures { IfOk result (IsOutputOf asked.now.tool (passwd asked.now tables.now)) }
 {
     if !asked.has(b'S') {
-        return Ok(Report::silent(alloc));
+        return Ok(Output::silent(alloc));
     }
-    Ok(Report {
-        status: 0,
-        out: password_status(alloc, tables, asked.operand())?,
-        notices: Names::new(alloc),
-    })
+    Ok(Output::shown(alloc, password_status(alloc, tables, asked.operand())?))
 }
 
 // Tests the refusals in their order.

@@ -145,8 +145,9 @@ own-options tool (option ∷ options) all = elim (cases_Bool (is_prefix tool opt
 -- what words ask for keeps the row of its tool
 pub asks-keeps_row :
     (words : List Word) (request : Request) → Asks words request → KeepsRow request
-asks-keeps_row words request asks =
+asks-keeps_row words request whole =
     let tool = request.tool in
+    let asks = whole.command in
     let all =
     spelled-of_table (option_forms tool) (letters-apart tool) asks.arguments asks.given
     request.operands asks.spelled in

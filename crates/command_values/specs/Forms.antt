@@ -1,17 +1,18 @@
--- The test that each form of a value is (useradd(8), usermod(8), groupmod(8), chage(1)).
+-- The test that each form of a value is (useradd(8), usermod(8), chfn(1), groupmod(8), chage(1)).
 use Rattle.std.specs.Prelude.{ℕ, Bool, not, List, [], ◌∷◌, Option}
 use Rattle.account_model.specs.declared.refusal.Refusal.{Refusal}
 use Rattle.account_model.specs.Names.{is_valid_name}
 use Rattle.account_model.specs.Refusals.{bad_value_of, refuse_if}
 use Rattle.account_model.specs.UsermodRanges.{is_range}
-use Rattle.account_model.specs.Values.{is_field, is_folder, is_shell, is_days_value, is_date_value, is_expiration_value}
+use Rattle.account_model.specs.Values.{is_comment_part, is_field, is_folder, is_shell, is_days_value, is_date_value, is_expiration_value}
 use Rattle.account_model.specs.Records.{is_id}
 use Rattle.command_values.specs.declared.form.Form.{Form}
-use Rattle.command_values.specs.declared.form.Form.TheVariants.{Field, Folder, Shell, Id, Name, Days, Date, Expiration, Range}
+use Rattle.command_values.specs.declared.form.Form.TheVariants.{Field, Part, Folder, Shell, Id, Name, Days, Date, Expiration, Range}
 
 -- whether a value is of the form
 abbrev pub test_of : Form → List ℕ → Bool
 test_of Field = is_field
+test_of Part = is_comment_part
 test_of Folder = is_folder
 test_of Shell = is_shell
 test_of Id = is_id

@@ -1,4 +1,5 @@
-// What the value of an option may be (useradd(8), usermod(8), groupadd(8), groupmod(8), chage(1)).
+// What the value of an option may be (useradd(8), usermod(8), chfn(1), groupadd(8), groupmod(8),
+// chage(1)).
 ghost use Rattle.std.specs.Prelude.{◌≡◌, not, ◌&&◌, ◌||◌, is_some};
 ghost use Rattle.acct_text.specs.Numbers.{number_within};
 ghost use Rattle.acct_text.specs.Bytes.{newline, colon, is_empty};
@@ -17,6 +18,8 @@ use acct_text::read_decimal;
 pub enum Form {
     /// A comment or a hash: it holds no `:` and no newline.
     Field,
+    /// A part of a comment: a field that holds no `,` and no `=`.
+    Part,
     /// A home or a base folder: a field that begins with `/`.
     Folder,
     /// A shell: a field that is empty or begins with `/`.
@@ -42,6 +45,7 @@ impl Form {
     {
         match self {
             Form::Field => is_field(value),
+            Form::Part => is_field(value) && !has_byte(value, b',') && !has_byte(value, b'='),
             Form::Folder => is_field(value) && begins_with_slash(value),
             Form::Shell => is_field(value) && (value.is_empty() || begins_with_slash(value)),
             Form::Id => read_id(value).is_some(),

@@ -16,7 +16,7 @@ use script::script_of;
 use std::alloc::{AllocError, Global};
 use table_edits::{Script, Tables};
 
-mod script;
+pub(crate) mod script;
 
 /// The script that sets the members, the administrators and the hash of the group.
 ///
@@ -36,14 +36,14 @@ fn check_names(alloc: Global, asked: &Asked, tables: &Tables) -> Result<(), Tool
 {
     tables.check_group(alloc, asked.operand())?;
     check_added(alloc, asked, tables)?;
-    check_removed(alloc, asked, tables)?;
+    check_removed(alloc, asked, tables, asked.operand())?;
     check_list(alloc, asked, tables, b'A')?;
     check_list(alloc, asked, tables, b'M')?;
     check_comma(alloc, asked)
 }
 
-// Refuses a user of `-a` that isn't there.
-fn check_added(alloc: Global, asked: &Asked, tables: &Tables) -> Result<(), ToolFault>
+/// Refuses a user of `-a` that isn't there.
+pub(crate) fn check_added(alloc: Global, asked: &Asked, tables: &Tables) -> Result<(), ToolFault>
     ensures { StopsBy
         (refuse_value (codes "a") asked.now (λ user. missing_user user tables.now)) result }
 {
@@ -53,13 +53,18 @@ fn check_added(alloc: Global, asked: &Asked, tables: &Tables) -> Result<(), Tool
     }
 }
 
-// Refuses a user of `-d` that is no member.
-fn check_removed(alloc: Global, asked: &Asked, tables: &Tables) -> Result<(), ToolFault>
+/// Refuses a user of `-d` that is no member of the group.
+pub(crate) fn check_removed(
+    alloc: Global,
+    asked: &Asked,
+    tables: &Tables,
+    group: &[u8],
+) -> Result<(), ToolFault>
     ensures { StopsBy
-        (refuse_value (codes "d") asked.now (not_member (operand asked.now) tables.now)) result }
+        (refuse_value (codes "d") asked.now (not_member group.now tables.now)) result }
 {
     match asked.value(b'd') {
-        Some(user) => check_member(alloc, tables, user, asked.operand()),
+        Some(user) => check_member(alloc, tables, user, group),
         None => Ok(()),
     }
 }
@@ -133,8 +138,8 @@ fn check_listed(alloc: Global, tables: &Tables, users: &[u8]) -> Result<(), Tool
     tables.check_users(alloc, &names)
 }
 
-// Refuses a user of `-a` who can't stand in a list.
-fn check_comma(alloc: Global, asked: &Asked) -> Result<(), ToolFault>
+/// Refuses a user of `-a` who can't stand in a list.
+pub(crate) fn check_comma(alloc: Global, asked: &Asked) -> Result<(), ToolFault>
     ensures { RefusesBy (refuse_value (codes "a") asked.now bad_list_name) result }
 {
     match asked.value(b'a') {

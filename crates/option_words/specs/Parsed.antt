@@ -9,4 +9,5 @@ request_in parsed = record {
   prefix = parsed.prefix;
   options = parsed.options;
   operands = parsed.operands;
+  plan = parsed.planned;
 }

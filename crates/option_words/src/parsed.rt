@@ -4,7 +4,7 @@ ghost use Rattle.std.specs.Option.{option_copied};
 ghost use Rattle.std.specs.List.{list_any};
 ghost use Rattle.account_model.specs.declared.given.Given.{Given};
 
-use account_model::{Given, Tool};
+use account_model::{Given, PlanForm, Tool};
 use acct_text::{Bytes, Names};
 use std::alloc::{AllocError, Global};
 use std::marker::Model;
@@ -88,6 +88,8 @@ pub struct Parsed {
     pub options: Options,
     /// The user or the group, or nothing for a tool that takes neither.
     pub operands: Names,
+    /// How the command is planned, and none where it is carried out.
+    pub planned: Option<PlanForm>,
 }
 
 // Whether an option has the letter.

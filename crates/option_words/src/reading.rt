@@ -259,6 +259,7 @@ impl Reading {
             prefix,
             options,
             operands,
+            planned: None,
         })
     }
 }

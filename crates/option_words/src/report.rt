@@ -1,7 +1,8 @@
 // Which commands only show what stands, and so need no lock, and which tables they read
 // (docs/ARCHITECTURE.md, "Reports").
 ghost use Rattle.std.specs.Prelude.{◌≡◌};
-ghost use Rattle.account_model.specs.Request.{is_report};
+ghost use Rattle.account_model.specs.Request.{is_report, reports};
+ghost use Rattle.account_model.specs.Rows.{row_of};
 ghost use Rattle.account_model.specs.SeenFiles.{read_tables};
 ghost use Rattle.option_words.specs.Parsed.{request_in};
 
@@ -20,9 +21,17 @@ const ALL: &[Tab] = &[
 ];
 
 impl Parsed {
-    /// Whether the command only shows what stands: `pwck -r`, `grpck -r`, `getsubids` and `chage -l`.
+    /// Whether the command only shows what stands: `pwck -r`, `grpck -r`, `getsubids` and `chage -l`, and
+    /// each plan.
     pub fn is_report(&self) -> bool
         ensures { result ≡ is_report (request_in self.now) }
+    {
+        self.planned.is_some() || self.reports()
+    }
+
+    // Whether it only shows what stands where it is carried out.
+    fn reports(&self) -> bool
+        ensures { result ≡ reports (row_of self.now.tool).reporting (request_in self.now) }
     {
         match self.tool.row().reporting {
             Reporting::Never => false,
@@ -32,7 +41,7 @@ impl Parsed {
     }
 
     /// The tables on which its answer rests, in no order. A report reads no others; any other command
-    /// reads all six.
+    /// reads all six, also where it is planned.
     pub fn read_tables(&self) -> &'static [Tab]
         ensures { result.now ≡ read_tables (request_in self.now) }
     {

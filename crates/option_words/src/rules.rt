@@ -4,7 +4,7 @@ ghost use Rattle.account_model.specs.Options.{is_given as has_letter, is_alone a
 ghost use Rattle.account_model.specs.Words.{broken_rule as first_broken};
 ghost use Rattle.account_model.specs.SeenRows.{test_of};
 
-use Test::{Alone, NotBoth, OneOf, OnlyWith, SomeOf, SomeOption};
+use Test::{Alone, ExactlyOne, NotBoth, OneOf, OnlyWith, SomeOf, SomeOption};
 use account_model::{Given, Rule, Test, Tool};
 
 /// The first rule of the tool that the options break, counted from 1.
@@ -33,6 +33,7 @@ fn passes(test: Test, options: &[Given]) -> bool
         SomeOption => !options.is_empty(),
         SomeOf(letters) => has_some(letters, options),
         OneOf(letters) => count_given(letters, options) <= 1,
+        ExactlyOne(letters) => count_given(letters, options) == 1,
         Alone(letters) => are_alone(letters, options),
     }
 }

@@ -4,6 +4,7 @@ ghost use Rattle.account_model.specs.Words.{Asks, AsksAs, AsksLine, fault, fault
 ghost use Rattle.option_words.specs.Parsed.{request_in};
 
 use crate::Parsed;
+use crate::plan::{command_words, plan_of};
 use crate::reading::read_arguments;
 use account_model::{Tool, WordFault, WordsOf};
 use acct_text::Word;
@@ -15,7 +16,8 @@ const MOST_WORDS: usize = 512;
 // How many bytes a word has at most.
 const LONGEST_WORD: usize = 4096;
 
-/// What the words of a command ask for. Word 0 names the tool.
+/// What the words of a command ask for. Word 0 names the tool; where it is `plan`, what the words behind
+/// it ask for is planned, and all that is told of words counts from those.
 ///
 /// A fault of the words is the first of them, in the order of `WordFault`: the limits, the tool, the
 /// words from left to right, the prefix, a missing operand, and the tool's rules. `Memory` comes for
@@ -24,7 +26,11 @@ pub fn read_words(alloc: Global, words: &[Word]) -> Result<Parsed, WordFault>
     ensures request { IfOk result (λ parsed. Asks words.now (request_in parsed)) }
     ensures first_fault { IfErr result (λ found. (fault words.now ≡ Some found) ⊎ (found ≡ WordFault.Memory)) }
 {
-    read_as(alloc, WordsOf::Command, words)
+    let parsed = read_as(alloc, WordsOf::Command, command_words(words))?;
+    Ok(Parsed {
+        planned: plan_of(words),
+        ..parsed
+    })
 }
 
 /// What the words of a line of a batch ask for, in the folder of the batch: the prefix is empty, and

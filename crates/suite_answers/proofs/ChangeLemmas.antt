@@ -8,6 +8,7 @@ use Rattle.std.proofs.lemmas.Slice.Eq.{bytes_eq-Decides}
 use Rattle.acct_text.specs.Bytes.{Bytes}
 use Rattle.acct_text.specs.Contents.{same_content}
 use Rattle.acct_text.specs.declared.files.Files.{Files}
+use Rattle.account_model.specs.declared.plan_form.PlanForm.{PlanForm}
 use Rattle.account_model.specs.declared.tool.Tool.{Tool}
 use Rattle.account_model.specs.declared.tool.Tool.TheVariants.{Batch}
 use Rattle.account_model.specs.declared.refusal.Refusal.{Refusal}
@@ -20,7 +21,7 @@ use Rattle.account_model.specs.Tables.{Script, files_after}
 use Rattle.account_model.specs.Action.{Action, Made, made_by, outcome_of, multiple_entries}
 use Rattle.account_model.specs.Batch.{LineRefusal, Written, batch, before_others, ensures, line_outcome, with_rest, written_by}
 use Rattle.account_model.specs.Change.{action_of}
-use Rattle.account_model.specs.Answer.{Answer, FileProblem, Same, Changed, new_problem, files_problem, files_eq, answer_lines, answer_outcome, answer_under, succeeding, unusable}
+use Rattle.account_model.specs.Answer.{Answer, AnswerCause, FileProblem, Same, Changed, new_problem, files_problem, files_eq, answer_lines, answer_outcome, answer_asked, answer_under, command_answer, planned_cause, succeeding, unusable}
 use Rattle.account_model.proofs.LawfulTools.{IsPlain}
 use Rattle.account_model.proofs.NoEdits.{files-stay}
 use Rattle.account_model.proofs.ToolLaws.{meaning}
@@ -147,7 +148,20 @@ answer-succeeds request input day old settings (Some problem) new changed = absu
 answer-succeeds request input day old settings None new changed =
     under-succeeds request input day old settings (is_batch request.tool) new changed
 
+-- a plan changes nothing
+never-changes : (cause : AnswerCause) (new : Files) → planned_cause cause ≡ Changed new → ⊥
+never-changes (Changed files) new changed = cc changed
+never-changes cause new changed = cc changed
+
+-- so an answer that is a change has status 0 as it is asked for
+asked-succeeds : (plan : Option PlanForm) (old : Files) (made : Answer) → Succeeds made →
+    Succeeds (answer_asked plan old made)
+asked-succeeds None old made succeeds new changed = succeeds new changed
+asked-succeeds (Some form) old made succeeds new changed =
+    absurd (never-changes made.cause new changed)
+
 -- the law
 pub changes-succeed : ChangesSucceed
 changes-succeed request input day old defs =
-    answer-succeeds request input day old (settings_of (unwrap_or defs [])) (files_problem old defs)
+    asked-succeeds request.plan old (command_answer request input day old defs)
+    (answer-succeeds request input day old (settings_of (unwrap_or defs [])) (files_problem old defs))

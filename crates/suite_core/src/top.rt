@@ -17,11 +17,11 @@ use suite_course::{refuse_words, run_request};
 /// backups, and frees the lock. Its output goes to `out`, its message to `err`.
 ///
 /// The outcome's cause tells each error. Words that ask for nothing call nothing but the streams.
-/// chpasswd(8) and a batch take their input to the end, and no other tool takes any; each line of a
-/// batch that isn't skipped must ask for something; then each tool asks for the day. Without these the
-/// folder isn't called. Where the folder tells its history, and that was
-/// lawful, it stays so whatever other sessions do in between, and the answer is the tool's on the
-/// files at the place of the command's lock.
+/// chpasswd(8), chgpasswd(8) and a batch take their input to the end, and no other tool takes any; each
+/// line of a batch that isn't skipped must ask for something; then each tool asks for the day. Without
+/// these the folder isn't called. Where the folder tells its history, and that was lawful, it stays so
+/// whatever other sessions do in between, and the answer is the tool's on the files at the place of the
+/// command's lock.
 ///
 /// A command that is alone, where no lock and no intent stands in its way and nothing outside fails,
 /// has no other answer than its tool's on the files of its entry, or that there was no memory.

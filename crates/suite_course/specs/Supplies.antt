@@ -1,6 +1,6 @@
--- What a command takes beside its words: chpasswd(8) reads its pairs and a batch its lines from the
--- standard input, to the end, and other tools nothing of it; and each command takes the day from the
--- clock. Each line of a batch that isn't skipped must ask for something.
+-- What a command takes beside its words: chpasswd(8) and chgpasswd(8) read their pairs and a batch its
+-- lines from the standard input, to the end, and other tools nothing of it; and each command takes the
+-- day from the clock. Each line of a batch that isn't skipped must ask for something.
 use Rattle.std.specs.Prelude.{◌≡◌, ⊤, ℕ, ◌+◌, ◌≤◌, ◌++◌, [], length, Bool, true, false, Option, Some, Result, Ok, Err}
 use Rattle.acct_text.specs.Bytes.{Bytes}
 use Rattle.acct_text.specs.Limits.{table_limit}
@@ -22,7 +22,7 @@ use Rattle.suite_session.specs.Runner.{LinesAsk}
 use Rattle.suite_course.specs.declared.supplies.Lack.{Lack}
 use Rattle.suite_course.specs.declared.supplies.Lack.TheVariants.{Supply, Line}
 
--- the tool reads an input: the pairs of chpasswd(8), the lines of a batch
+-- the tool reads an input: the pairs of chpasswd(8) and chgpasswd(8), the lines of a batch
 abbrev pub reads_input : Tool → Bool
 reads_input tool = (row_of tool).reads_input
 

@@ -7,11 +7,15 @@ ghost use Rattle.suite_main.specs.HelpTexts.{helps_with, names_tools};
 
 mod batch;
 mod chage;
+mod chfn;
+mod chgpasswd;
 mod chpasswd;
+mod chsh;
 mod getsubids;
 mod gpasswd;
 mod groupadd;
 mod groupdel;
+mod groupmems;
 mod groupmod;
 mod grpck;
 mod grpconv;
@@ -52,12 +56,16 @@ Tools:
   useradd    create a user
   usermod    change a user
   userdel    delete a user
+  chfn       change the parts of a user's comment
+  chsh       change the login shell of a user
   groupadd   create a group
   groupmod   change a group
   groupdel   delete a group
   gpasswd    change the members or the password of a group
+  groupmems  change or list the members of a group
   chage      change or list the aging of a password
   chpasswd   set the passwords of users
+  chgpasswd  set the passwords of groups
   passwd     lock, unlock, age or show the password of a user
   pwconv     move the passwords of users to shadow
   pwunconv   move the passwords of users to passwd
@@ -86,12 +94,16 @@ pub(crate) fn text_of(tool: Tool) -> &'static str
         Tool::Useradd => useradd::text(),
         Tool::Usermod => usermod::text(),
         Tool::Userdel => userdel::text(),
+        Tool::Chfn => chfn::text(),
+        Tool::Chsh => chsh::text(),
         Tool::Groupadd => groupadd::text(),
         Tool::Groupmod => groupmod::text(),
         Tool::Groupdel => groupdel::text(),
         Tool::Gpasswd => gpasswd::text(),
+        Tool::Groupmems => groupmems::text(),
         Tool::Chage => chage::text(),
         Tool::Chpasswd => chpasswd::text(),
+        Tool::Chgpasswd => chgpasswd::text(),
         Tool::Passwd => passwd::text(),
         Tool::Pwconv => pwconv::text(),
         Tool::Pwunconv => pwunconv::text(),

@@ -15,6 +15,7 @@ use Rattle.acct_text.specs.Files.{table_of}
 use Rattle.acct_outside.specs.declared.CommitStage.TheVariants.{Before}
 use Rattle.acct_outside.specs.History.{History}
 use Rattle.acct_outside.specs.Life.{life, running}
+use Rattle.account_model.specs.declared.plan_form.PlanForm.{PlanForm}
 use Rattle.account_model.specs.declared.tool.Tool.{Tool}
 use Rattle.account_model.specs.declared.tool.Tool.TheVariants.{Batch}
 use Rattle.account_model.specs.declared.refusal.Refusal.{Refusal}
@@ -28,7 +29,7 @@ use Rattle.account_model.specs.Words.{is_batch}
 use Rattle.account_model.specs.Text.{first_some}
 use Rattle.account_model.specs.Messages.{message}
 use Rattle.account_model.specs.Statuses.{file_status}
-use Rattle.account_model.specs.Answer.{FileProblem, TableTooLarge, SettingsTooLarge, TableAbsent, BadSettingAt, AnswerCause, Unusable, Same, Changed, Answer as ToolAnswer, must_stand, table_problem, files_problem, file_problem_text, new_problem, files_eq, cause_of, unusable, succeeding, answer_lines, answer_outcome, answer_under, answer_written, answer}
+use Rattle.account_model.specs.Answer.{FileProblem, TableTooLarge, SettingsTooLarge, TableAbsent, BadSettingAt, AnswerCause, Unusable, Same, Changed, Answer as ToolAnswer, answer_asked, command_answer, planned, planned_cause, must_stand, table_problem, files_problem, file_problem_text, new_problem, files_eq, cause_of, unusable, succeeding, answer_lines, answer_outcome, answer_under, answer_written, answer}
 use Rattle.suite_rules.specs.OwnLock.{kept_number}
 use Rattle.suite_rules.specs.Knowledge.{Knowledge}
 use Rattle.suite_rules.specs.Standing.{standing}
@@ -119,12 +120,12 @@ under-whole request input day files settings problem = cases (is_batch request.t
         ∙ ap (λ (tool : Tool). unusable tool problem) (sym (batch-tool request.tool is_one))
     cases false is_one is = outcome-whole request.tool files outcome problem is
 
--- of the answer
-answer-whole : (request : Request) (input : List ℕ) (day : ℕ) (files : Files)
+-- of the answer to a command that is carried out
+command-whole : (request : Request) (input : List ℕ) (day : ℕ) (files : Files)
     (defs : Option Bytes) (problem : FileProblem) →
-    (answer request input day files defs).cause ≡ Unusable problem →
-    answer request input day files defs ≡ unusable request.tool problem
-answer-whole request input day files defs problem = cases (files_problem files defs)
+    (command_answer request input day files defs).cause ≡ Unusable problem →
+    command_answer request input day files defs ≡ unusable request.tool problem
+command-whole request input day files defs problem = cases (files_problem files defs)
   where
     settings : List Setting
     settings = settings_of (unwrap_or defs [])
@@ -141,11 +142,42 @@ answer-whole request input day files defs problem = cases (files_problem files d
     cases (Some one) is = unusable-is request.tool one problem is
     cases None is = under-whole request input day files settings problem is
 
+-- a plan tells it as its command does
+asked-unusable : (plan : Option PlanForm) (files : Files) (tool : Tool) (problem : FileProblem) →
+    answer_asked plan files (unusable tool problem) ≡ unusable tool problem
+asked-unusable None files tool problem = refl
+asked-unusable (Some form) files tool problem = refl
+
+-- and no other cause becomes it
+planned-unusable : (cause : AnswerCause) (problem : FileProblem) →
+    planned_cause cause ≡ Unusable problem → cause ≡ Unusable problem
+planned-unusable (Changed new) problem is = absurd (cc is)
+planned-unusable cause problem is = is
+
+-- so of the answer, by that to its command
+asked-whole : (plan : Option PlanForm) (files : Files) (tool : Tool) (made : ToolAnswer)
+    (problem : FileProblem) → (made.cause ≡ Unusable problem → made ≡ unusable tool problem) →
+    (answer_asked plan files made).cause ≡ Unusable problem →
+    answer_asked plan files made ≡ unusable tool problem
+asked-whole None files tool made problem whole is = whole is
+asked-whole (Some form) files tool made problem whole is =
+    ap (planned form files) (whole (planned-unusable made.cause problem is))
+
+answer-whole : (request : Request) (input : List ℕ) (day : ℕ) (files : Files)
+    (defs : Option Bytes) (problem : FileProblem) →
+    (answer request input day files defs).cause ≡ Unusable problem →
+    answer request input day files defs ≡ unusable request.tool problem
+answer-whole request input day files defs problem =
+    asked-whole request.plan files request.tool (command_answer request input day files defs) problem
+    (command-whole request input day files defs problem)
+
 -- the first problem of the files is the answer
 pub problem-answers : (request : Request) (input : List ℕ) (day : ℕ) (files : Files)
     (defs : Option Bytes) (problem : FileProblem) → files_problem files defs ≡ Some problem →
     answer request input day files defs ≡ unusable request.tool problem
-problem-answers request input day files defs problem is = cases (files_problem files defs) is
+problem-answers request input day files defs problem is =
+    ap (answer_asked request.plan files) (cases (files_problem files defs) is)
+    ∙ asked-unusable request.plan files request.tool problem
   where
     cases : (found : Option FileProblem) → found ≡ Some problem →
         (elim found as (λ one. ToolAnswer) [

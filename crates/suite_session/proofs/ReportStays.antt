@@ -1,13 +1,15 @@
 -- Claim: the answer to a report is no change, on whatever files (`report-stays`).
--- Way: what an answer changes is made by its tool and differs from the old, but a report has no edits (`report` of
--- `LawfulAct`), so its tables stay. A batch is no report, also where each of its lines asks for one (`report-single`).
+-- Way: a plan changes nothing. What any other answer changes is made by its tool and differs from the old, but a
+-- report has no edits (`report` of `LawfulAct`), so its tables stay. A batch is no report, also where each of its lines
+-- asks for one (`report-single`).
 use Rattle.std.proofs.Common.{◌≡◌, refl, sym, ap, ◌∙◌, ℕ, true, false, List, [], Option, Some, inl, inr, true≢false}
-use Rattle.std.specs.Prelude.{unwrap_or}
+use Rattle.std.specs.Prelude.{◌||◌, None, is_some, unwrap_or}
 use Rattle.acct_text.specs.Bytes.{Bytes}
 use Rattle.acct_text.specs.declared.files.Files.{Files}
 use Rattle.account_model.specs.Tables.{Script, files_after}
 use Rattle.account_model.proofs.NoEdits.{files-stay}
 use Rattle.account_model.proofs.ToolLaws.{meaning}
+use Rattle.account_model.specs.declared.plan_form.PlanForm.{PlanForm}
 use Rattle.account_model.specs.declared.tool.Tool.{Tool}
 use Rattle.account_model.specs.declared.tool.Tool.TheVariants.{Batch}
 use Rattle.account_model.specs.Options.{Word}
@@ -17,7 +19,7 @@ use Rattle.account_model.specs.Settings.{Setting, settings_of}
 use Rattle.account_model.specs.Words.{Asks, is_batch}
 use Rattle.account_model.specs.Action.{Action, Made}
 use Rattle.account_model.specs.Change.{action_of}
-use Rattle.account_model.specs.Answer.{AnswerCause, Changed, answer, files_eq, new_files}
+use Rattle.account_model.specs.Answer.{AnswerCause, Changed, answer, answer_asked, command_answer, files_eq, new_files, planned_cause}
 use Rattle.account_model.proofs.BatchLaws.{outcome-made}
 use Rattle.account_model.proofs.DeedLaws.{changes-differ, changes-makes}
 use Rattle.suite_answers.proofs.ChangeLemmas.{same-files}
@@ -31,12 +33,16 @@ report-single : (tool : Tool) (request : Request) → is_reporting (row_of tool)
 report-single Batch request is = absurd (true≢false (sym is))
 report-single _ request is = refl
 
+-- a plan is no change
+plan-stays : (cause : AnswerCause) → is_change (planned_cause cause) ≡ false
+plan-stays (Changed files) = refl
+plan-stays cause = refl
+
 -- the answer to a report is no change
 pub report-stays : (words : List Word) (request : Request) (input : Bytes) (day : ℕ) (files : Files)
     (defs : Option Bytes) → Asks words request → is_report request ≡ true →
     is_change (answer request input day files defs).cause ≡ false
-report-stays words request input day files defs asks is =
-    by (answer request input day files defs).cause changes
+report-stays words request input day files defs asks = by-plan request.plan refl
   where
     settings : List Setting
     settings = settings_of (unwrap_or defs [])
@@ -44,14 +50,16 @@ report-stays words request input day files defs asks is =
     action : Action
     action = action_of request input day files settings
 
-    changes : (new : Files) → new_files (answer request input day files defs).cause ≡ Some new → ⊥
-    changes new e = elim (changes-makes request input day files defs new e) [
+    changes : is_reporting (row_of request.tool).reporting request ≡ true → (new : Files) →
+        new_files (answer request input day files defs).cause ≡ Some new → ⊥
+    changes is new e = elim (changes-makes request input day files defs new e) [
       | inl by_lines ↦ true≢false (sym by_lines.is ∙ report-single request.tool request is)
       | inr by_tool ↦
           let made : files_after action.script files ≡ new =
           ap (λ (one : Made). one.files)
           (outcome-made action files by_tool.made by_tool.outcome).makes ∙ by_tool.files
-          in let none = (meaning request.tool request input day files settings).report asks.rules is
+          in let none = (meaning request.tool request input day files settings).report
+          asks.command.rules is
           in let stay : files ≡ new = sym (ap (λ (script : Script). files_after script files) none
           ∙ files-stay files) ∙ made
           in true≢false (sym (same-files files) ∙ ap (files_eq files) stay
@@ -62,6 +70,14 @@ report-stays words request input day files defs asks is =
         is_change cause ≡ false
     by (Changed new) never = absurd (never new refl)
     by cause never = refl
+
+    by-plan : (plan : Option PlanForm) → request.plan ≡ plan →
+        (is_some plan || is_reporting (row_of request.tool).reporting request) ≡ true →
+        is_change (answer request input day files defs).cause ≡ false
+    by-plan (Some form) planned is = ap (λ (plan : Option PlanForm). is_change (answer_asked plan files
+        (command_answer request input day files defs)).cause) planned
+        ∙ plan-stays (command_answer request input day files defs).cause
+    by-plan None carried is = by (answer request input day files defs).cause (changes is)
 
 -- so no tool decides a change of one
 pub report-unchanging : (asked : Question) → Asks asked.command.words asked.request →

@@ -19,7 +19,7 @@ use crate::session::Phase;
 use crate::state::State;
 use crate::tools::Tools;
 use crate::unlocking::{failed, free, unlock};
-use account_model::words_have_one_reading;
+use account_model::commands_have_one_reading;
 use acct_outside::{CommitStage, Folder, FolderFault, Token};
 use lock_steps::Looking;
 use std::alloc::{AllocError, Global};
@@ -136,7 +136,7 @@ fn answered<F: Folder>(runner: Runner, answer: Answer, folder: &mut F) -> Phase
 pub(crate) fn asks_once(asked: &Question)
     ensures { IsRead asked.now }
 {
-    words_have_one_reading();
+    commands_have_one_reading();
     asked.tool();
     asked.input();
 }

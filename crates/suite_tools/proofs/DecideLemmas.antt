@@ -15,9 +15,9 @@ use Rattle.login_defs.specs.declared.defs.Defs.{Defs}
 use Rattle.tool_answers.specs.Decisions.{decision_of, refusal_output}
 use Rattle.tool_answers.specs.declared.decision.Decision.{Decision}
 use Rattle.tool_answers.specs.declared.decision.Decision.TheVariants.{Refuse}
+use Rattle.tool_answers.specs.declared.decision.Output.{Output}
 use Rattle.tool_answers.specs.declared.tool_fault.ToolFault.{ToolFault}
 use Rattle.tool_answers.specs.declared.tool_fault.ToolFault.TheVariants.{Refused}
-use Rattle.table_edits.specs.declared.report.Report.{Report}
 use Rattle.table_edits.specs.declared.script.Script.{Script}
 use Rattle.suite_tools.specs.Carrying.{AnswersUnder, EditsDecide}
 use Rattle.suite_tools.specs.Deciding.{CommandDecides, LinesDecideUnder}
@@ -52,11 +52,11 @@ module _ (defs : Defs) (day : ℕ) (request : Request) (input : List ℕ) (files
     (decision : Decision) where
   -- by its edits
   pub edits-decide :
-      (script : Script) (report : Report)
-      → AnswersUnder defs day request input files files (Ok (Edits script report))
-      → EditsDecide request.tool files script report decision
+      (script : Script) (output : Output)
+      → AnswersUnder defs day request input files files (Ok (Edits script output))
+      → EditsDecide request.tool files script output decision
       → CommandDecides defs day request input files decision
-  edits-decide script report answers decides settings holds =
+  edits-decide script output answers decides settings holds =
       rw answers.0 (decides (action_of request input day files settings) (answers.1 settings holds))
 
   -- alone

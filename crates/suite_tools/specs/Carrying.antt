@@ -17,18 +17,17 @@ use Rattle.tool_answers.specs.declared.tool_fault.ToolFault.{ToolFault}
 use Rattle.tool_answers.specs.declared.tool_fault.ToolFault.TheVariants.{Refused, Memory}
 use Rattle.login_defs.specs.declared.defs.Defs.{Defs}
 use Rattle.login_defs.specs.Held.{HasSettings}
-use Rattle.table_edits.specs.Acting.{IsReportOf, IsScriptOf}
+use Rattle.table_edits.specs.Acting.{IsOutputOf, IsScriptOf}
 use Rattle.table_edits.specs.Deciding.{IsCarriedOut}
-use Rattle.table_edits.specs.declared.report.Report.{Report}
 use Rattle.table_edits.specs.declared.script.Script.{Script}
 use Rattle.suite_tools.specs.declared.answer.Answered.{Answered}
 use Rattle.suite_tools.specs.declared.answer.Answered.TheVariants.{Edits, Decides as DecidesAlone, Lines}
 
 -- ---- The tool
 
--- the script and the report are of this action, of which no refusal is there
-abbrev pub IsOfAction : Script → Report → Action → Type 0
-IsOfAction script report action = IsScriptOf action script × IsReportOf action report
+-- the script and the output are of this action of the tool, of which no refusal is there
+abbrev pub IsOfAction : Tool → Script → Output → Action → Type 0
+IsOfAction tool script output action = IsScriptOf action script × IsOutputOf tool action output
 
 -- on this day a tool that is no batch is about to make this of the tables, whichever settings the values
 -- are those of
@@ -37,13 +36,13 @@ ActsUnder defs day request input tables Acts = (is_batch request.tool ≡ false)
     × ((settings : List Setting) → HasSettings defs settings
     → Acts (action_of request input day tables settings))
 
--- The tool answers so on these tables: with the script of its action and its report, or with its first
--- refusal. One that looks through whole tables decides on these files, and a batch leaves it to its
+-- The tool answers so on these tables: with the script of its action and what it prints, or with its
+-- first refusal. One that looks through whole tables decides on these files, and a batch leaves it to its
 -- lines; no line asks for these. Want of memory may come anywhere.
 abbrev pub AnswersUnder :
     Defs → ℕ → Request → List ℕ → Files → Files → Result Answered ToolFault → Type 0
-AnswersUnder defs day request input files tables (Ok (Edits script report)) =
-    ActsUnder defs day request input tables (IsOfAction script report)
+AnswersUnder defs day request input files tables (Ok (Edits script output)) =
+    ActsUnder defs day request input tables (IsOfAction request.tool script output)
 AnswersUnder defs day request input files tables (Ok (DecidesAlone decision)) =
     (is_for_lines request.tool ≡ false) × ActsUnder defs day request input files
     (λ action. Decides request.tool files (outcome_of action files) decision)
@@ -54,10 +53,10 @@ AnswersUnder defs day request input files tables (Err Memory) = ⊤
 
 -- ---- The tables
 
--- the script of an action of the tool, which reports this, decides so on the files
-abbrev pub EditsDecide : Tool → Files → Script → Report → Decision → Type 0
-EditsDecide tool files script report decision = (action : Action)
-    → IsOfAction script report action
+-- the script of an action of the tool, which prints this, decides so on the files
+abbrev pub EditsDecide : Tool → Files → Script → Output → Decision → Type 0
+EditsDecide tool files script output decision = (action : Action)
+    → IsOfAction tool script output action
     → Decides tool files (outcome_of action files) decision
 
 -- the tool carries out the request on these files, whichever settings the values are those of

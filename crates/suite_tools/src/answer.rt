@@ -4,11 +4,12 @@ ghost use Rattle.acct_text.specs.Limits.{last_day, table_limit};
 ghost use Rattle.login_defs.specs.Held.{IsHeld};
 ghost use Rattle.suite_tools.specs.Carrying.{AnswersUnder};
 
+use account_model::HashesOf::{Groups, Users};
 use account_model::Tool;
 use acct_text::Files;
-use aging_commands::chage::{chage, chage_report};
-use aging_commands::chpasswd::chpasswd;
-use aging_commands::passwd::{passwd, passwd_report};
+use aging_commands::chage::{chage, chage_output};
+use aging_commands::chpasswd::set_hashes;
+use aging_commands::passwd::{passwd, passwd_output};
 use check_reports::conversion::{grpunconv, pwunconv};
 use check_reports::getsubids::getsubids;
 use check_reports::grpck::grpck;
@@ -18,20 +19,23 @@ use command_values::Asked;
 use group_commands::gpasswd::gpasswd;
 use group_commands::groupadd::groupadd;
 use group_commands::groupdel::groupdel;
+use group_commands::groupmems::{groupmems, groupmems_output};
 use group_commands::groupmod::groupmod;
 use login_defs::Defs;
 use std::alloc::Global;
-use table_edits::{Report, Script, Tables};
-use tool_answers::{Decision, ToolFault};
+use table_edits::{Script, Tables};
+use tool_answers::{Decision, Output, ToolFault};
+use user_changes::chfn::chfn;
+use user_changes::chsh::chsh;
 use user_changes::usermod;
-use user_creation::{useradd, useradd_report};
-use user_removal::{userdel, userdel_report};
+use user_creation::{useradd, useradd_output};
+use user_removal::{userdel, userdel_output};
 
 /// What a tool answers that doesn't refuse.
 #[derive(Drop)]
 pub(crate) enum Answered {
-    /// It makes the edits of this script, and reports this.
-    Edits(Script, Report),
+    /// It makes the edits of this script, and prints this.
+    Edits(Script, Output),
     /// It looks through whole tables, and decides this on them.
     Decides(Decision),
     /// A batch: its lines answer, one after another.
@@ -59,27 +63,34 @@ pub(crate) fn answer_of(
     match asked.tool() {
         Tool::Useradd => {
             let script = useradd(alloc, asked, tables, defs, day)?;
-            let report = useradd_report(alloc, asked, tables, &script)?;
-            Ok(Answered::Edits(script, report))
+            let output = useradd_output(alloc, asked, tables, &script)?;
+            Ok(Answered::Edits(script, output))
         }
         Tool::Userdel => {
             let script = userdel(alloc, asked, tables, defs)?;
-            Ok(Answered::Edits(script, userdel_report(alloc, asked, tables, defs)?))
+            Ok(Answered::Edits(script, userdel_output(alloc, asked, tables, defs)?))
+        }
+        Tool::Groupmems => {
+            let script = groupmems(alloc, asked, tables)?;
+            Ok(Answered::Edits(script, groupmems_output(alloc, asked, tables)?))
         }
         Tool::Chage => {
             let script = chage(alloc, asked, tables)?;
-            Ok(Answered::Edits(script, chage_report(alloc, asked, tables)?))
+            Ok(Answered::Edits(script, chage_output(alloc, asked, tables)?))
         }
         Tool::Passwd => {
             let script = passwd(alloc, asked, tables)?;
-            Ok(Answered::Edits(script, passwd_report(alloc, asked, tables)?))
+            Ok(Answered::Edits(script, passwd_output(alloc, asked, tables)?))
         }
         Tool::Usermod => Ok(quietly(alloc, usermod(alloc, asked, tables, day)?)),
+        Tool::Chfn => Ok(quietly(alloc, chfn(alloc, asked, tables)?)),
+        Tool::Chsh => Ok(quietly(alloc, chsh(alloc, asked, tables)?)),
         Tool::Groupadd => Ok(quietly(alloc, groupadd(alloc, asked, tables, defs)?)),
         Tool::Groupmod => Ok(quietly(alloc, groupmod(alloc, asked, tables)?)),
         Tool::Groupdel => Ok(quietly(alloc, groupdel(alloc, asked, tables)?)),
         Tool::Gpasswd => Ok(quietly(alloc, gpasswd(alloc, asked, tables)?)),
-        Tool::Chpasswd => Ok(quietly(alloc, chpasswd(alloc, input, tables, day)?)),
+        Tool::Chpasswd => Ok(quietly(alloc, set_hashes(alloc, Users, input, tables, day)?)),
+        Tool::Chgpasswd => Ok(quietly(alloc, set_hashes(alloc, Groups, input, tables, day)?)),
         Tool::Pwck => Ok(Answered::Decides(pwck(alloc, asked, files, day)?)),
         Tool::Grpck => Ok(Answered::Decides(grpck(alloc, asked, files)?)),
         Tool::Pwconv => Ok(Answered::Decides(pwconv(alloc, asked.tool(), files, defs, day)?)),
@@ -91,9 +102,9 @@ pub(crate) fn answer_of(
     }
 }
 
-// What a tool answers that reports nothing beside its script.
+// What a tool answers that prints nothing beside its script.
 fn quietly(alloc: Global, script: Script) -> Answered
-    ensures { result ≡ Answered.Edits script (record { status = 0; out = []; notices = [] }) }
+    ensures { result ≡ Answered.Edits script (record { status = 0; out = []; err = [] }) }
 {
-    Answered::Edits(script, Report::silent(alloc))
+    Answered::Edits(script, Output::silent(alloc))
 }

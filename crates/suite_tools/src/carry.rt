@@ -34,9 +34,10 @@ pub(crate) fn carry_out(
     ensures { CarriesUnder defs.now day asked.now [] tables.old tables.new result }
 {
     match answer_of(alloc, asked, b"", files, &Tables::of(tables), defs, day)? {
-        Answered::Edits(script, report) => {
+        Answered::Edits(script, output) => {
             tools_are_written();
-            table_edits::carry_out(alloc, asked.tool(), tables, &script, report)
+            table_edits::carry_out(alloc, tables, &script)?;
+            Ok(output)
         }
         // No line names a batch, or a tool that looks through whole tables.
         Answered::Decides(_) | Answered::Lines => unreachable!(),

@@ -13,10 +13,10 @@ use account_model::Tool;
 use acct_text::Files;
 use carried_tables::CarriedTables;
 use std::alloc::{AllocError, Global};
-use table_edits::{Report, Script, carry_out};
+use table_edits::{Script, carry_out};
 use tool_answers::{Decision, Output, ToolFault, decision_by, refuse};
 
-/// What a command decides by the edits of its tool, which reports this: they are carried out on the
+/// What a command decides by the edits of its tool, which prints this: they are carried out on the
 /// tables, which are the files.
 pub(crate) fn decide_edits(
     alloc: Global,
@@ -24,15 +24,15 @@ pub(crate) fn decide_edits(
     files: &Files,
     mut tables: CarriedTables,
     script: &Script,
-    report: Report,
+    output: Output,
 ) -> Result<Decision, AllocError>
     requires are { tables ≡ files.now }
     requires written { IsWrittenScript (seen_script script.now) }
-    requires of_action { (action : Action) × IsOfAction script.now report action }
-    ensures { IfOk result (EditsDecide tool files.now script.now report) }
+    requires of_action { (action : Action) × IsOfAction tool script.now output action }
+    ensures { IfOk result (EditsDecide tool files.now script.now output) }
 {
-    match carry_out(alloc, tool, &mut tables, script, report) {
-        Ok(output) => decide_change(alloc, files, &mut tables, output),
+    match carry_out(alloc, &mut tables, script) {
+        Ok(()) => decide_change(alloc, files, &mut tables, output),
         Err(ToolFault::Refused(refusal)) => refuse(alloc, tool, refusal),
         Err(ToolFault::Memory) => Err(AllocError),
     }

@@ -20,8 +20,8 @@ use table_edits::Tables;
 use tool_answers::{ToolFault, refuse};
 
 /// What the command decides on these files, by the settings and the day, in days since 1970-01-01.
-/// The input is that of chpasswd(8) or the lines of a batch, of at most 16,777,216 bytes. An absent
-/// passwd or group has no records here; the fault is for the caller to find before.
+/// The input is that of chpasswd(8) or chgpasswd(8), or the lines of a batch, of at most 16,777,216 bytes.
+/// An absent passwd or group has no records here; the fault is for the caller to find before.
 pub fn decide(
     alloc: Global,
     parsed: &Parsed,
@@ -41,8 +41,8 @@ pub fn decide(
     let tables = tables_for(alloc, asked, text, files)?;
     tools_are_written();
     match answer_of(alloc, asked, text, files, &Tables::of(&tables), defs, day) {
-        Ok(Answered::Edits(script, report)) => {
-            decide_edits(alloc, asked.tool(), files, tables, &script, report)
+        Ok(Answered::Edits(script, output)) => {
+            decide_edits(alloc, asked.tool(), files, tables, &script, output)
         }
         Ok(Answered::Decides(decision)) => Ok(decision),
         Ok(Answered::Lines) => {

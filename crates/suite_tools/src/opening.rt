@@ -1,6 +1,7 @@
 // The tables that commands are carried out on, with the indices that pay.
 ghost use Rattle.std.specs.Prelude.{◌≡◌, IfOk, OnOk};
 
+use account_model::Tool;
 use acct_text::Files;
 use carried_tables::CarriedTables;
 use command_values::Asked;
@@ -24,10 +25,12 @@ pub(crate) fn tables_for<'a>(
     ensures { IfOk result (λ tables. tables ≡ files.now) }
 {
     let mut tables = CarriedTables::of(files);
-    if lists_many(asked, b'A') || lists_many(asked, b'M') || has_many(input, b'\n', MANY_NAMES) {
+    let many_lines = has_many(input, b'\n', MANY_NAMES);
+    let of_groups = asked.tool() == Tool::Chgpasswd;
+    if lists_many(asked, b'A') || lists_many(asked, b'M') || (many_lines && !of_groups) {
         tables.index_users(alloc)?;
     }
-    if lists_many(asked, b'G') {
+    if lists_many(asked, b'G') || (many_lines && of_groups) {
         tables.index_groups(alloc)?;
     }
     Ok(tables)

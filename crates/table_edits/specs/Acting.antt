@@ -1,10 +1,12 @@
--- What a tool answers, and what it reports ("EXIT VALUES" of each page).
+-- What a tool answers, and what it prints ("EXIT VALUES" of each page).
 use Rattle.std.specs.Prelude.{◌≡◌, ⊤, Some, None, Result, Ok, Err}
 use Rattle.account_model.specs.Action.{Action}
+use Rattle.account_model.specs.Messages.{messages}
 use Rattle.account_model.specs.Text.{first_some}
+use Rattle.account_model.specs.declared.tool.Tool.{Tool}
+use Rattle.tool_answers.specs.declared.decision.Output.{Output}
 use Rattle.tool_answers.specs.declared.tool_fault.ToolFault.{ToolFault}
 use Rattle.tool_answers.specs.declared.tool_fault.ToolFault.TheVariants.{Refused, Memory}
-use Rattle.table_edits.specs.declared.report.Report.{Report}
 use Rattle.table_edits.specs.declared.script.Script.{Script}
 use Rattle.table_edits.specs.SeenScript.{seen_script}
 
@@ -19,8 +21,8 @@ ActsBy action (Ok script) = IsScriptOf action script
 ActsBy action (Err (Refused refusal)) = first_some action.refusals ≡ Some refusal
 ActsBy action (Err Memory) = ⊤
 
--- the report has what the action prints, with its status
-pub record IsReportOf (action : Action) (report : Report) : Type 0 where
-  pub status : report.status ≡ action.status
-  pub output : report.out ≡ action.output
-  pub notices : report.notices ≡ action.notices
+-- the output has what the action of the tool prints, with its status
+pub record IsOutputOf (tool : Tool) (action : Action) (printed : Output) : Type 0 where
+  pub status : printed.status ≡ action.status
+  pub output : printed.out ≡ action.output
+  pub notices : printed.err ≡ messages tool action.notices

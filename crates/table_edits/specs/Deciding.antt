@@ -8,8 +8,7 @@ use Rattle.account_model.specs.declared.tool.Tool.{Tool}
 use Rattle.tool_answers.specs.declared.decision.Output.{Output}
 use Rattle.tool_answers.specs.declared.tool_fault.ToolFault.{ToolFault}
 use Rattle.tool_answers.specs.declared.tool_fault.ToolFault.TheVariants.{Refused, Memory}
-use Rattle.table_edits.specs.Acting.{IsReportOf, IsScriptOf}
-use Rattle.table_edits.specs.declared.report.Report.{Report}
+use Rattle.table_edits.specs.Acting.{IsOutputOf, IsScriptOf}
 use Rattle.table_edits.specs.declared.script.Script.{Script}
 
 -- what is left and printed by a tool that isn't refused
@@ -36,9 +35,13 @@ IsCarriedOut tool outcome old new (Err (Refused refusal)) =
     (outcome ≡ Err refusal) × (new ≡ old)
 IsCarriedOut tool outcome old new (Err Memory) = ⊤
 
--- so is any action with this script and this report, of which no refusal is there
-abbrev pub CarriesAs :
-    Tool → Script → Report → Files → Files → Result Output ToolFault → Type 0
-CarriesAs tool script report old new result =
-    (action : Action) → IsScriptOf action script → IsReportOf action report
-    → IsCarriedOut tool (outcome_of action old) old new result
+-- what a command prints once it is carried out
+abbrev pub printing : {X : Type 0} → Output → Result X ToolFault → Result Output ToolFault
+printing output (Ok done) = Ok output
+printing output (Err fault) = Err fault
+
+-- so is any action with this script, of which no refusal is there, with what its tool prints
+abbrev pub CarriesAs : {X : Type 0} → Script → Files → Files → Result X ToolFault → Type 0
+CarriesAs script old new result = (tool : Tool) (action : Action) (output : Output)
+    → IsScriptOf action script → IsOutputOf tool action output
+    → IsCarriedOut tool (outcome_of action old) old new (printing output result)

@@ -6,35 +6,31 @@ ghost use Rattle.account_model.specs.WrittenScript.{IsWrittenScript};
 ghost use Rattle.table_edits.specs.Deciding.{CarriesAs};
 ghost use Rattle.table_edits.specs.SeenScript.{seen_script};
 
+use crate::Script;
 use crate::idle_edits::without_idle;
 use crate::multiple::first_multiple;
-use crate::{Report, Script};
-use account_model::Tool;
 use carried_tables::CarriedTables;
 use std::alloc::{AllocError, Global};
-use tool_answers::{Output, ToolFault};
+use tool_answers::ToolFault;
 
-/// Carries out the script of a tool with this report on the tables, and gives what the tool prints.
+/// Carries out the script of a tool on the tables.
 ///
 /// At `Refused` the script would touch a record whose name has several records in its table, the first
 /// in the order passwd, shadow, group, gshadow, and the tables are as before. At `Memory` some of the
 /// edits may be made.
 pub fn carry_out(
     alloc: Global,
-    tool: Tool,
     tables: &mut CarriedTables,
     script: &Script,
-    report: Report,
-) -> Result<Output, ToolFault>
+) -> Result<(), ToolFault>
     requires { IsWrittenScript (seen_script script.now) }
-    ensures { CarriesAs tool script.now report tables.old tables.new result }
+    ensures { CarriesAs script.now tables.old tables.new result }
 {
     if let Some(refusal) = first_multiple(alloc, tables, script)? {
         return Err(ToolFault::Refused(refusal));
     }
-    let output = report.output(alloc, tool)?;
     edit_tables(alloc, tables, script)?;
-    Ok(output)
+    Ok(())
 }
 
 // Makes the edits of each table, but for those that leave each record of it.

@@ -12,7 +12,7 @@
 //! a group with its hash.
 //! `carry_out` carries it out on the tables: it refuses where an edit touches one of several records of
 //! a name (`multiple`), and else edits them, but for a table whose edits are seen to leave all records
-//! (`idle_edits`). What a tool prints beside is its `Report`.
+//! (`idle_edits`).
 #![tactic(auto)]
 
 mod carry;
@@ -24,7 +24,6 @@ mod idle_edits;
 mod lookups;
 mod multiple;
 mod new_groups;
-mod report;
 mod script;
 mod tables;
 mod unknown_groups;
@@ -36,7 +35,6 @@ pub use carry::carry_out;
 pub use given_groups::{given_group, group_names};
 pub use group_hashes::{demand_gshadow, set_group_hash};
 pub use new_groups::add_group;
-pub use report::Report;
 pub use script::Script;
 pub use tables::Tables;
 pub use unknown_groups::{check_given_group, check_given_groups};

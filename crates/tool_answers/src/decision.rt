@@ -1,10 +1,11 @@
 // What a command decides on given files.
-ghost use Rattle.std.specs.Prelude.{◌≡◌, IfOk};
+ghost use Rattle.std.specs.Prelude.{◌≡◌, [], IfOk};
+ghost use Rattle.account_model.specs.Messages.{messages as messages_of};
 ghost use Rattle.tool_answers.specs.Decisions.{decision_by, line_refusal_output, refusal_output};
 
-use crate::{line_refusal_message, push_line, refusal_status, refusal_text};
+use crate::{line_refusal_message, messages, push_line, refusal_status, refusal_text};
 use account_model::{Refusal, Tool};
-use acct_text::{Bytes, NewTables};
+use acct_text::{Bytes, Names, NewTables};
 use std::alloc::{AllocError, Global};
 
 /// What a command prints, and the status with which it ends.
@@ -16,6 +17,38 @@ pub struct Output {
     pub out: Bytes,
     /// The bytes for the error stream.
     pub err: Bytes,
+}
+
+impl Output {
+    /// That of a tool that prints nothing, with status 0. It allocates nothing.
+    pub fn silent(alloc: Global) -> Self
+        ensures { result ≡ record { status = 0; out = []; err = [] } }
+    {
+        Output::shown(alloc, Bytes::new(alloc))
+    }
+
+    /// That of a tool that shows this and tells nothing beside, with status 0. It allocates nothing.
+    pub fn shown(alloc: Global, out: Bytes) -> Self
+        ensures { result ≡ record { status = 0; out = out; err = [] } }
+    {
+        Output {
+            status: 0,
+            out,
+            err: Bytes::new(alloc),
+        }
+    }
+
+    /// That of a tool that tells these notices alone, a line for each, with status 0.
+    pub fn noticed(alloc: Global, tool: Tool, notices: &Names) -> Result<Self, AllocError>
+        ensures { IfOk result (λ output.
+            output ≡ record { status = 0; out = []; err = messages_of tool notices.now }) }
+    {
+        Ok(Output {
+            status: 0,
+            out: Bytes::new(alloc),
+            err: messages(alloc, tool, notices)?,
+        })
+    }
 }
 
 /// What a command decides on the files of the tables.

@@ -154,6 +154,7 @@ fn problem_text(alloc: Global, problem: &LineProblem) -> Result<Bytes, AllocErro
         LineProblem::NoColon => Bytes::of(alloc, b"no colon"),
         LineProblem::HashColon => Bytes::of(alloc, b"colon in hash"),
         LineProblem::UnknownUser(name) => pair(alloc, b"unknown user ", name.as_slice()),
+        LineProblem::UnknownGroup(name) => pair(alloc, b"unknown group ", name.as_slice()),
         LineProblem::LineEnd => Bytes::of(alloc, b"ends in a carriage return"),
     }
 }

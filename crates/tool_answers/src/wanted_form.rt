@@ -1,6 +1,6 @@
 // The forms that values of options have, as refusals name them.
 ghost use Rattle.std.specs.Prelude.{◌≡◌};
-ghost use Rattle.account_model.specs.Messages.{date_form, days_form, field_form, id_form, name_form, path_form, range_form, wanted_form};
+ghost use Rattle.account_model.specs.Messages.{date_form, days_form, field_form, id_form, name_form, part_form, path_form, range_form, wanted_form};
 ghost use Rattle.account_model.specs.Text.{has_byte};
 
 use account_model::Tool;
@@ -18,6 +18,9 @@ const PATH_FORM: &[u8] = b"a path that begins with /, no : and no newline";
 // The form of a comment and a hash.
 const FIELD_FORM: &[u8] = b"no : and no newline";
 
+// The form of a part of a comment.
+const PART_FORM: &[u8] = b"no : , = and no newline";
+
 // The form of a UID and a GID.
 const ID_FORM: &[u8] = b"a number from 0 to 4294967294";
 
@@ -30,19 +33,21 @@ const DAYS_FORM: &[u8] = b"-1 or a number from 0 to 2147483647";
 // The form of a date.
 const DATE_FORM: &[u8] = b"a date as 2026-01-31, days since 1970-01-01, or -1";
 
-/// The form of the value of an option by its letter, which has one meaning for all tools but chage
-/// and passwd.
+/// The form of the value of an option by its letter, which has one meaning for all tools but chage,
+/// chfn and passwd.
 pub(crate) fn wanted_form(tool: Tool, letter: u8) -> &'static [u8]
     ensures { result.now ≡ wanted_form tool letter }
 {
     match tool {
         Tool::Chage if is_of(letter, b"dE") => DATE_FORM,
         Tool::Chage | Tool::Passwd => DAYS_FORM,
+        Tool::Chfn if is_of(letter, b"o") => FIELD_FORM,
+        Tool::Chfn => PART_FORM,
         _ => common_form(letter),
     }
 }
 
-// The form of the value of an option of another tool than chage and passwd.
+// The form of the value of an option of another tool than chage, chfn and passwd.
 fn common_form(letter: u8) -> &'static [u8]
     ensures { result.now ≡ wanted_form Tool.Useradd letter }
 {

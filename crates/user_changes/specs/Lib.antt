@@ -1,3 +1,4 @@
+pub mod Comments
 pub mod Fields
 pub mod Memberships
 pub mod Ranges

@@ -1,6 +1,6 @@
 // The fields of passwd and shadow (usermod(8), `-c`, `-d`, `-e`, `-f`, `-g`, `-l`, `-p`, `-s` and
-// `-u`).
-ghost use Rattle.std.specs.Prelude.{◌≡◌, [], ◌∷◌, codes, IfOk, OnOk, option_and_then};
+// `-u`; chfn(1), chsh(1)).
+ghost use Rattle.std.specs.Prelude.{◌≡◌, [], ◌∷◌, codes, IfOk, OnOk, option_and_then, unwrap_or};
 ghost use Rattle.account_model.specs.Edits.{each_where};
 ghost use Rattle.account_model.specs.Format.{is_named};
 ghost use Rattle.account_model.specs.Records.{passwd_format, shadow_format};
@@ -10,6 +10,7 @@ ghost use Rattle.account_model.specs.Usermod.{changed_shadow, changed_user};
 ghost use Rattle.account_model.specs.Values.{days_value, expiration_value};
 ghost use Rattle.line_edits.specs.ShadowChanges.{given_days};
 ghost use Rattle.table_edits.specs.Additions.{HasAlso};
+ghost use Rattle.table_edits.specs.SeenScript.{seen_script};
 ghost use Rattle.user_changes.specs.Fields.{day_of_change, user_fields, SetsShadow};
 
 use crate::changes::new_name;
@@ -82,8 +83,35 @@ fn shadow_fields(alloc: Global, asked: &Asked, day: u32) -> Result<ShadowFields,
     })
 }
 
-// The text that an option gives.
-fn text_of(alloc: Global, asked: &Asked, letter: u8) -> Result<Option<Bytes>, AllocError>
+/// The script that sets these fields of the user's lines of passwd, as far as they are given.
+pub(crate) fn change_fields(
+    alloc: Global,
+    asked: &Asked,
+    comment: Option<Bytes>,
+    shell: Option<Bytes>,
+) -> Result<Script, AllocError>
+    ensures { IfOk result (λ script. seen_script script ≡ record no_edits {
+      passwd = each_where (is_named passwd_format (operand asked.now)) (λ user. record user {
+        comment = unwrap_or comment.entry user.comment;
+        shell = unwrap_or shell.entry user.shell;
+      }) ∷ [];
+    }) }
+{
+    let fields = UserFields {
+        name: None,
+        uid: None,
+        gid: None,
+        comment,
+        home: None,
+        shell,
+    };
+    let mut script = Script::new(alloc);
+    script.change_user(alloc, asked.operand(), PasswdAct::SetFields(fields))?;
+    Ok(script)
+}
+
+/// The text that an option gives.
+pub(crate) fn text_of(alloc: Global, asked: &Asked, letter: u8) -> Result<Option<Bytes>, AllocError>
     ensures { IfOk result (λ text. text ≡ value_of (letter ∷ []) asked.now) }
 {
     match asked.value(letter) {

@@ -4,7 +4,7 @@ ghost use Rattle.account_model.specs.Records.{subid_format};
 ghost use Rattle.account_model.specs.Settings.{Setting};
 ghost use Rattle.account_model.specs.Tables.{table_records};
 ghost use Rattle.account_model.specs.Useradd.{hash_notices, inherited_text, open_hash_text, opens_nothing, range_notices, useradd, useradd_notices};
-ghost use Rattle.table_edits.specs.Acting.{IsReportOf, IsScriptOf};
+ghost use Rattle.table_edits.specs.Acting.{IsOutputOf, IsScriptOf};
 ghost use Rattle.table_edits.specs.SeenScript.{seen_script};
 ghost use Rattle.user_creation.specs.Added.{added_uid};
 
@@ -14,25 +14,23 @@ use carried_tables::RangeTable;
 use command_values::Asked;
 use line_edits::Edit;
 use std::alloc::{AllocError, Global};
-use table_edits::{Report, Script, Tables};
+use table_edits::{Script, Tables};
+use tool_answers::Output;
 
-/// What useradd reports by the script with which it makes the user: notices of a hash that stands in
+/// What useradd prints by the script with which it makes the user: notices of a hash that stands in
 /// passwd and could open the account, and of ranges that stood there before and are the new user's.
-pub fn useradd_report(
+pub fn useradd_output(
     alloc: Global,
     asked: &Asked,
     tables: &Tables,
     script: &Script,
-) -> Result<Report, AllocError>
-    ensures { IfOk result (λ report. (settings : List Setting) (day : ℕ)
+) -> Result<Output, AllocError>
+    ensures { IfOk result (λ output. (settings : List Setting) (day : ℕ)
         → IsScriptOf (useradd asked.now tables.now settings day) script.now
-        → IsReportOf (useradd asked.now tables.now settings day) report) }
+        → IsOutputOf asked.now.tool (useradd asked.now tables.now settings day) output) }
 {
-    Ok(Report {
-        status: 0,
-        out: Bytes::new(alloc),
-        notices: useradd_notices(alloc, asked, tables, added_uid(script))?,
-    })
+    let notices = useradd_notices(alloc, asked, tables, added_uid(script))?;
+    Output::noticed(alloc, asked.tool(), &notices)
 }
 
 // The UID of the user that the script adds.

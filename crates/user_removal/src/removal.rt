@@ -5,7 +5,7 @@ ghost use Rattle.account_model.specs.Settings.{Setting};
 ghost use Rattle.account_model.specs.Tables.{in_order};
 ghost use Rattle.account_model.specs.Userdel.{is_shared, own_uid, remove_user as user_removal, userdel};
 ghost use Rattle.login_defs.specs.Held.{HasSettings};
-ghost use Rattle.table_edits.specs.Acting.{ActsBy, IsReportOf};
+ghost use Rattle.table_edits.specs.Acting.{ActsBy, IsOutputOf};
 ghost use Rattle.table_edits.specs.Additions.{HasAlso};
 ghost use Rattle.table_edits.specs.SeenScript.{seen_script};
 ghost use Rattle.user_removal.specs.KeptGroups.{removal_of_group};
@@ -21,7 +21,8 @@ use line_edits::{
 };
 use login_defs::Defs;
 use std::alloc::{AllocError, Global};
-use table_edits::{Report, Script, Tables};
+use table_edits::{Script, Tables};
+use tool_answers::Output;
 
 /// The edits that remove the user, with its ranges and the group of its name.
 ///
@@ -40,22 +41,19 @@ pub fn userdel(
     Ok(removal(alloc, asked, tables, &group)?)
 }
 
-/// What userdel reports: a notice where the group of the user's name is kept.
-pub fn userdel_report(
+/// What userdel prints: a notice where the group of the user's name is kept.
+pub fn userdel_output(
     alloc: Global,
     asked: &Asked,
     tables: &Tables,
     defs: &Defs,
-) -> Result<Report, AllocError>
-    ensures { IfOk result (λ report. (settings : List Setting) → HasSettings defs.now settings
-        → IsReportOf (userdel asked.now tables.now settings) report) }
+) -> Result<Output, AllocError>
+    ensures { IfOk result (λ output. (settings : List Setting) → HasSettings defs.now settings
+        → IsOutputOf asked.now.tool (userdel asked.now tables.now settings) output) }
 {
     let group = own_group(alloc, asked, tables, defs)?;
-    Ok(Report {
-        status: 0,
-        out: Bytes::new(alloc),
-        notices: kept_notices(alloc, asked, tables, &group)?,
-    })
+    let notices = kept_notices(alloc, asked, tables, &group)?;
+    Output::noticed(alloc, asked.tool(), &notices)
 }
 
 // The user goes, and then its own group, where nothing keeps it.

@@ -21,8 +21,8 @@ pub(super) fn script_of(alloc: Global, asked: &Asked, tables: &Tables) -> Result
         ≡ gpasswd_script (operand asked.now) asked.now tables.now) }
 {
     let mut script = Script::new(alloc);
-    add_member(alloc, asked, &mut script)?;
-    remove_member(alloc, asked, &mut script)?;
+    add_member(alloc, asked, asked.operand(), &mut script)?;
+    remove_member(alloc, asked, asked.operand(), &mut script)?;
     list_administrators(alloc, asked, tables, &mut script)?;
     list_members(alloc, asked, &mut script)?;
     remove_password(alloc, asked, tables, &mut script)?;
@@ -30,30 +30,38 @@ pub(super) fn script_of(alloc: Global, asked: &Asked, tables: &Tables) -> Result
     Ok(script)
 }
 
-// `-a` adds a member.
-fn add_member(alloc: Global, asked: &Asked, script: &mut Script) -> Result<(), AllocError>
+/// `-a` adds a member to the group.
+pub(crate) fn add_member(
+    alloc: Global,
+    asked: &Asked,
+    group: &[u8],
+    script: &mut Script,
+) -> Result<(), AllocError>
     ensures { OnOk result (HasAlso
-        (with_option (codes "a") asked.now (add_to_group (operand asked.now)))
-        script.old script.new) }
+        (with_option (codes "a") asked.now (add_to_group group.now)) script.old script.new) }
 {
     let Some(user) = asked.value(b'a') else {
         return Ok(());
     };
-    script.add_to_group(alloc, asked.operand(), user)
+    script.add_to_group(alloc, group, user)
 }
 
-// `-d` removes a member.
-fn remove_member(alloc: Global, asked: &Asked, script: &mut Script) -> Result<(), AllocError>
+/// `-d` removes a member from the group.
+pub(crate) fn remove_member(
+    alloc: Global,
+    asked: &Asked,
+    group: &[u8],
+    script: &mut Script,
+) -> Result<(), AllocError>
     ensures { OnOk result (HasAlso
-        (with_option (codes "d") asked.now (remove_from_group (operand asked.now)))
-        script.old script.new) }
+        (with_option (codes "d") asked.now (remove_from_group group.now)) script.old script.new) }
 {
     let Some(user) = asked.value(b'd') else {
         return Ok(());
     };
     let act = GroupAct::RemoveMember(Bytes::of(alloc, user)?);
     let gshadow_act = GshadowAct::RemoveMember(Bytes::of(alloc, user)?);
-    script.change_both(alloc, asked.operand(), act, gshadow_act)
+    script.change_both(alloc, group, act, gshadow_act)
 }
 
 // `-A` sets the administrators.

@@ -5,6 +5,6 @@ use Rattle.aging_commands.proofs.chpasswd.new_hashes.Goals as goal
 
 pub hashes-preserved : goal.hashes-preserved
 hashes-preserved c = order-more
-    (λ (hash : NewHash). hash_script c.args.tables.now c.args.day (seen_line hash))
+    (λ (hash : NewHash). hash_script c.args.whose c.args.tables.now c.args.day (seen_line hash))
     c.args.hashes.now c.hashes.hash-index _ _ _ c.hashes-test.true c.hashes.invariant
     (c.in_ok-set_hash.ensures {u = tt})

@@ -8,4 +8,4 @@ use Rattle.aging_commands.proofs.chpasswd.new_hashes.Given as goal
 abbrev pub invariant-hashes : goal.invariant-hashes
 invariant-hashes l = seen_script l.script
     ≡ in_order
-    (map (λ hash. hash_script l.tables l.day (seen_line hash)) (take l.hash-index l.hashes))
+    (map (λ hash. hash_script l.whose l.tables l.day (seen_line hash)) (take l.hash-index l.hashes))

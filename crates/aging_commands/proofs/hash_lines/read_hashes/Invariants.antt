@@ -10,8 +10,8 @@ abbrev pub invariant-lines : goal.invariant-lines
 invariant-lines l = record {
   read : map seen_line l.hashes.items
       ≡ map hash_line (map (part_of l.input) (take l.start-index l.start-items));
-  good : bad_text_from 1 l.tables (texts_of (lines_of l.input))
-      ≡ bad_text_from (l.start-index + 1) l.tables
+  good : bad_text_from l.whose 1 l.tables (texts_of (lines_of l.input))
+      ≡ bad_text_from l.whose (l.start-index + 1) l.tables
       (map (part_of l.input) (drop l.start-index l.start-items));
   counted : l.number ≡ l.start-index;
 }

@@ -13,6 +13,11 @@ returns-in-Usermod c =
     subst (λ tool. helps_with tool c.text-in-Usermod.result.now ≡ true) (sym c.in-Usermod.is)
     c.text-in-Usermod.ensures
 
+pub returns-in-Chfn : goal.returns-in-Chfn
+returns-in-Chfn c =
+    subst (λ tool. helps_with tool c.text-in-Chfn.result.now ≡ true) (sym c.in-Chfn.is)
+    c.text-in-Chfn.ensures
+
 pub returns-in-Groupadd : goal.returns-in-Groupadd
 returns-in-Groupadd c =
     subst (λ tool. helps_with tool c.text-in-Groupadd.result.now ≡ true) (sym c.in-Groupadd.is)
@@ -27,6 +32,11 @@ pub returns-in-Gpasswd : goal.returns-in-Gpasswd
 returns-in-Gpasswd c =
     subst (λ tool. helps_with tool c.text-in-Gpasswd.result.now ≡ true) (sym c.in-Gpasswd.is)
     c.text-in-Gpasswd.ensures
+
+pub returns-in-Groupmems : goal.returns-in-Groupmems
+returns-in-Groupmems c =
+    subst (λ tool. helps_with tool c.text-in-Groupmems.result.now ≡ true) (sym c.in-Groupmems.is)
+    c.text-in-Groupmems.ensures
 
 pub returns-in-Chage : goal.returns-in-Chage
 returns-in-Chage c =

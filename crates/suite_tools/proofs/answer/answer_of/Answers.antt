@@ -1,4 +1,4 @@
--- The script of useradd comes with its report; groupadd reports nothing, whether its group exists or not;
+-- The script of useradd comes with what it prints; groupadd prints nothing, whether its group exists or not;
 -- and pwconv decides under whichever settings.
 use Rattle.std.proofs.Common.{◌≡◌, ◌∙◌, ℕ, Bool, true, false, List, [], Option, Some, Result, Ok, Err, ap, refl, subst, sym}
 use Rattle.std.specs.Prelude.{IsErr, if◌then◌else◌}
@@ -18,7 +18,7 @@ use Rattle.account_model.specs.declared.tool.Tool.{Tool}
 use Rattle.account_model.specs.declared.tool.Tool.TheVariants.{Groupadd, Pwconv, Useradd}
 use Rattle.login_defs.specs.Held.{HasSettings}
 use Rattle.login_defs.specs.declared.defs.Defs.{Defs}
-use Rattle.table_edits.specs.Acting.{ActsBy, IsReportOf}
+use Rattle.table_edits.specs.Acting.{ActsBy, IsOutputOf}
 use Rattle.check_reports.specs.Decided.{DecidesBy}
 use Rattle.tool_answers.specs.Decisions.{Decides}
 use Rattle.tool_answers.specs.declared.tool_fault.ToolFault.{ToolFault}
@@ -46,11 +46,11 @@ acts defs day request input tables tool Acts is plain each = (
 
 -- by whether the group exists
 quiet :
-    (exists : Bool) (checks all : List (Option Refusal)) (script : Script)
-    → IsReportOf (if exists then changes checks no_edits else changes all script)
-    (record { status = 0; out = []; notices = [] })
-quiet true checks all script = record { status = refl; output = refl; notices = refl }
-quiet false checks all script = record { status = refl; output = refl; notices = refl }
+    (tool : Tool) (exists : Bool) (checks all : List (Option Refusal)) (script : Script)
+    → IsOutputOf tool (if exists then changes checks no_edits else changes all script)
+    (record { status = 0; out = []; err = [] })
+quiet tool true checks all script = record { status = refl; output = refl; notices = refl }
+quiet tool false checks all script = record { status = refl; output = refl; notices = refl }
 
 -- the fault of useradd's script is its first refusal, or want of memory
 faulty :
@@ -86,13 +86,13 @@ returns-in_err-script-in-Useradd c =
     (c.in_err-script-in-Useradd.ensures {u = tt}) c.from_residual.ensures.0
     c.from_residual.ensures.1
 
-pub returns-in_ok-report-in-Useradd : goal.returns-in_ok-report-in-Useradd
-returns-in_ok-report-in-Useradd c =
+pub returns-in_ok-output-in-Useradd : goal.returns-in_ok-output-in-Useradd
+returns-in_ok-output-in-Useradd c =
     acts c.args.defs.now c.args.day c.args.asked.now c.args.input.now c.args.tables.now Useradd
-    (IsOfAction c.in_ok-script-in-Useradd.script c.in_ok-report-in-Useradd.report)
+    (IsOfAction c.args.asked.now.tool c.in_ok-script-in-Useradd.script c.in_ok-output-in-Useradd.output)
     (sym c.tool.ensures ∙ c.in-Useradd.is) refl (λ settings holds.
     let scripted = c.in_ok-script-in-Useradd.ensures settings holds in
-    (scripted, c.in_ok-report-in-Useradd.ensures settings c.args.day scripted))
+    (scripted, c.in_ok-output-in-Useradd.ensures settings c.args.day scripted))
 
 pub returns-in_ok-groupadd-in-Groupadd : goal.returns-in_ok-groupadd-in-Groupadd
 returns-in_ok-groupadd-in-Groupadd c =
@@ -101,11 +101,11 @@ returns-in_ok-groupadd-in-Groupadd c =
     subst (λ (one : Answered). AnswersUnder c.args.defs.now c.args.day asked c.args.input.now
     c.args.files.now tables (Ok one)) (sym c.quietly-in-Groupadd.ensures)
     (acts c.args.defs.now c.args.day asked c.args.input.now tables Groupadd
-    (IsOfAction c.in_ok-groupadd-in-Groupadd.field-0
-    (record { status = 0; out = []; notices = [] }))
+    (IsOfAction asked.tool c.in_ok-groupadd-in-Groupadd.field-0
+    (record { status = 0; out = []; err = [] }))
     (sym c.tool.ensures ∙ c.in-Groupadd.is) refl (λ settings holds. (
       c.in_ok-groupadd-in-Groupadd.ensures settings holds,
-      quiet (is_content (operand asked) asked tables) (groupadd_checks (operand asked) asked) _
+      quiet asked.tool (is_content (operand asked) asked tables) (groupadd_checks (operand asked) asked) _
           (groupadd_script (operand asked) asked tables settings),
     )))
 

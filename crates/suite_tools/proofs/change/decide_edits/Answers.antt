@@ -9,10 +9,12 @@ pub decide_change-requires : goal.decide_change-requires
 decide_change-requires c =
     let of_action = c.requires.of_action in
     (carried-decides c.args.tool of_action.0 c.args.files.now c.args.tables c.carry_out.new.tables
-    c.in-Ok.output c.requires.are (c.in-Ok.ensures of_action.0 of_action.1.0 of_action.1.1)).0
+    c.args.output c.requires.are
+    (c.in-Ok.ensures c.args.tool of_action.0 c.args.output of_action.1.0 of_action.1.1)).0
 
 pub returns-in-Ok : goal.returns-in-Ok
 returns-in-Ok c = IfOk-weaker c.decide_change.result _ _ (λ decision is action of_action. is
     ∙ (carried-decides c.args.tool action c.args.files.now c.args.tables c.carry_out.new.tables
-    c.in-Ok.output c.requires.are (c.in-Ok.ensures action of_action.0 of_action.1)).1)
+    c.args.output c.requires.are
+    (c.in-Ok.ensures c.args.tool action c.args.output of_action.0 of_action.1)).1)
     c.decide_change.ensures

@@ -11,7 +11,7 @@ use Rattle.option_words.specs.Parsed.{request_in}
 use Rattle.tool_answers.specs.declared.decision.Decision.TheVariants.{Refuse}
 use Rattle.tool_answers.specs.declared.tool_fault.ToolFault.TheVariants.{Refused}
 use Rattle.tool_answers.specs.Decisions.{refusal_output}
-use Rattle.suite_tools.specs.Carrying.{EditsDecide}
+use Rattle.suite_tools.specs.Carrying.{EditsDecide, IsOfAction}
 use Rattle.suite_tools.specs.Deciding.{LinesDecideUnder}
 use Rattle.suite_tools.specs.declared.answer.Answered.TheVariants.{Edits, Decides as DecidesAlone, Lines}
 use Rattle.suite_tools.proofs.DecideLemmas.{alone-decides, edits-decide, lines-decide, on-files, refusal-decides}
@@ -21,7 +21,7 @@ pub decide_edits-requires : goal.decide_edits-requires
 decide_edits-requires c =
     let request = request_in c.args.parsed.now in
     let told = on-files c.args.defs.now c.args.day request c.args.input.now c.args.files.now _ _ _
-    (Ok c.in-Ok-Edits.field-0) (Ok (Edits c.in-Ok-Edits.script c.in-Ok-Edits.report))
+    (Ok c.in-Ok-Edits.field-0) (Ok (Edits c.in-Ok-Edits.script c.in-Ok-Edits.output))
     c.of.ensures c.as_slice-text.ensures (c.of-2.ensures ∙ c.in_ok-tables.ensures)
     (ap Ok c.in-Ok-Edits.field-0-is) c.in-Ok-Edits.ensures in
     let of_action = told.1 c.requires.held.settings c.requires.held.held in
@@ -33,7 +33,9 @@ decide_edits-requires c =
           c.requires.held.settings in_time of_action.0.unrefused);
       of_action = (
         action_of request c.args.input.now c.args.day c.args.files.now c.requires.held.settings,
-        of_action,
+        subst (λ (tool : Tool). IsOfAction tool c.in-Ok-Edits.script c.in-Ok-Edits.output
+            (action_of request c.args.input.now c.args.day c.args.files.now c.requires.held.settings))
+            (sym (c.tool.ensures ∙ ap (λ (one : Request). one.tool) c.of.ensures)) of_action,
       );
     }
 
@@ -41,14 +43,14 @@ pub returns-in-Ok-Edits : goal.returns-in-Ok-Edits
 returns-in-Ok-Edits c =
     let request = request_in c.args.parsed.now in
     let told = on-files c.args.defs.now c.args.day request c.args.input.now c.args.files.now _ _ _
-    (Ok c.in-Ok-Edits.field-0) (Ok (Edits c.in-Ok-Edits.script c.in-Ok-Edits.report))
+    (Ok c.in-Ok-Edits.field-0) (Ok (Edits c.in-Ok-Edits.script c.in-Ok-Edits.output))
     c.of.ensures c.as_slice-text.ensures (c.of-2.ensures ∙ c.in_ok-tables.ensures)
     (ap Ok c.in-Ok-Edits.field-0-is) c.in-Ok-Edits.ensures in
     IfOk-weaker c.decide_edits.result _ _ (λ decision decides.
     edits-decide c.args.defs.now c.args.day request c.args.input.now c.args.files.now decision
-    c.in-Ok-Edits.script c.in-Ok-Edits.report told
+    c.in-Ok-Edits.script c.in-Ok-Edits.output told
     (subst (λ (tool : Tool). EditsDecide tool c.args.files.now c.in-Ok-Edits.script
-    c.in-Ok-Edits.report decision)
+    c.in-Ok-Edits.output decision)
     (c.tool.ensures ∙ ap (λ (one : Request). one.tool) c.of.ensures) decides))
     c.decide_edits.ensures
 

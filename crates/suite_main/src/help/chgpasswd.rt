@@ -1,0 +1,35 @@
+// What `accounts chgpasswd --help` prints (chgpasswd(8)).
+ghost use Rattle.std.specs.Prelude.{◌≡◌, true};
+ghost use Rattle.account_model.specs.declared.tool.Tool.TheVariants.{Chgpasswd};
+ghost use Rattle.suite_main.specs.HelpTexts.{helps_with};
+
+/// The text: the use of chgpasswd, its options and rules and no others, in lines of at most 80 columns.
+pub(crate) fn text() -> &'static str
+    ensures { helps_with Chgpasswd result.now ≡ true }
+{
+    "\
+Usage: accounts chgpasswd -P DIR -e
+       accounts chgpasswd --help
+
+Set the passwords of groups of the system image in DIR by the lines GROUP:HASH
+of the standard input, all of them or none.
+
+Options:
+  -P, --prefix DIR              directory of the system image; always needed
+  -R, --root DIR                the same as -P
+  -e, --encrypted               the lines hold hashes; always needed
+
+Rules:
+    -e is needed
+
+Exit status:
+  0    the passwords are set
+  1    no lock, a file or an input that can't be used, a file that can't be
+       updated, a bad line, or several entries of a name
+  2    words that can't be read, or a rule is broken
+  100  want of memory
+  101  the input can't be read
+  102  the output or the message can't be written
+  103  the clock gives no day
+"
+}
