@@ -27,7 +27,13 @@ empty = record {
 -- useradd with these options
 abbrev useradds : List Given → List ℕ → Request
 useradds options login =
-    record { tool = Useradd; prefix = codes "R"; options = options; operands = login ∷ [] }
+    record {
+      tool = Useradd;
+      prefix = codes "R";
+      options = options;
+      operands = login ∷ [];
+      plan = None;
+    }
 
 -- `-U`
 abbrev own_group : Given
@@ -57,7 +63,13 @@ two_ranges = refl
 -- `batch -P R` with the lines `useradd -U ann` and `useradd -U bob`: the second chooses beside the first
 abbrev batch_of_two : Files
 batch_of_two = unwrap_or (deed
-    (record { tool = Batch; prefix = codes "R"; options = []; operands = [] })
+    (record {
+      tool = Batch;
+      prefix = codes "R";
+      options = [];
+      operands = [];
+      plan = None;
+    })
     (codes "useradd -U ann" ++ newline ∷ codes "useradd -U bob") 20000 empty None) empty
 
 uids_of_batch : used_uids batch_of_two ≡ 1000 ∷ 1001 ∷ []
@@ -90,7 +102,13 @@ root_and_toor = record empty {
 -- usermod with these options
 abbrev usermods : List Given → List ℕ → Request
 usermods options login =
-    record { tool = Usermod; prefix = codes "R"; options = options; operands = login ∷ [] }
+    record {
+      tool = Usermod;
+      prefix = codes "R";
+      options = options;
+      operands = login ∷ [];
+      plan = None;
+    }
 
 -- `-u 0`, `-o`, `-N` and `-l sue`
 abbrev uid_zero : Given

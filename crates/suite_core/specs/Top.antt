@@ -5,6 +5,7 @@ use Rattle.acct_text.specs.Bytes.{Bytes}
 use Rattle.acct_outside.specs.Moment.{Moment}
 use Rattle.account_model.specs.declared.word_fault.WordFault.{WordFault}
 use Rattle.account_model.specs.Options.{Word}
+use Rattle.account_model.specs.PlanWords.{command_words}
 use Rattle.account_model.specs.Request.{Request}
 use Rattle.account_model.specs.Words.{Asks, fault}
 use Rattle.suite_answers.specs.declared.cause.Outcome.{Outcome}
@@ -19,7 +20,7 @@ abbrev pub RefusesFaulty : List Word → (FolderStays InputStays ClockStays : Ty
     Streams → Streams → Outcome → Type 0
 RefusesFaulty words FolderStays InputStays ClockStays was holds outcome =
     (found : WordFault) → fault words ≡ Some found → FolderStays × InputStays × ClockStays
-    × EndsEarly (named_tool words) (told_words words found) was holds outcome
+    × EndsEarly (named_tool words) (told_words (command_words words) found) was holds outcome
 
 -- Words that ask for something run, with the input and the day that came; or without one of these the
 -- folder isn't called.

@@ -13,6 +13,7 @@ use Rattle.acct_outside.specs.Contract.{TellsBegin, WhereTold}
 use Rattle.acct_outside.specs.declared.FolderFault.{FolderFault}
 use Rattle.account_model.specs.declared.tool.Tool.{Tool}
 use Rattle.account_model.specs.Options.{Word}
+use Rattle.account_model.specs.PlanWords.{command_words}
 use Rattle.account_model.specs.Words.{tool_named}
 use Rattle.suite_rules.specs.Deeds.{SuiteDeeds}
 use Rattle.suite_rules.specs.Standing.{standing}
@@ -113,9 +114,10 @@ RunsOrNot asked admits given outcome first old new =
 
 -- ---- The whole call
 
--- the tool that the first word names
+-- the tool that the first word names, of a plan the first behind its form
 abbrev pub named_tool : List Word → Option Tool
-named_tool words = elim (slice_get words 0) [ None ↦ None | Some word ↦ tool_named word ]
+named_tool words =
+    elim (slice_get (command_words words) 0) [ None ↦ None | Some word ↦ tool_named word ]
 
 -- the streams got this answer, and the outcome is what they left of it
 pub record Ends (tool : Option Tool) (given : Answer) (was holds : Streams) (outcome : Outcome)

@@ -1,5 +1,6 @@
 // How a command ends that doesn't run: the streams are served with the reason, and no session begins.
 ghost use Rattle.std.specs.Prelude.{◌≡◌, ◌⊎◌, Some, IfOk};
+ghost use Rattle.account_model.specs.PlanWords.{command_words};
 ghost use Rattle.account_model.specs.declared.word_fault.WordFault.{WordFault as Fault};
 ghost use Rattle.suite_answers.specs.declared.answer.Answer.{Answer as Given};
 ghost use Rattle.suite_answers.specs.Answers.{told_words};
@@ -12,13 +13,14 @@ use crate::streams::serve;
 use crate::supplies::Lack;
 use acct_outside::{CommitStage, Sink, SinkFault};
 use acct_text::Word;
-use option_words::{Tool, WordFault};
+use option_words::{Tool, WordFault, command_words};
 use std::alloc::{AllocError, Global};
 use suite_answers::{Answer, Outcome};
 use suite_session::{memory_answer, outcome_after};
 
-/// Tells the first fault of the words, and calls nothing but the streams. `Memory` is told where it
-/// was the fault, and where there is none for the text.
+/// Tells the first fault of the words, and calls nothing but the streams; in a plan's words places count
+/// from those of its command. `Memory` is told where it was the fault, and where there is none for the
+/// text.
 pub fn refuse_words<O: Sink, E: Sink>(
     alloc: Global,
     words: &[Word],
@@ -26,13 +28,14 @@ pub fn refuse_words<O: Sink, E: Sink>(
     out: &mut O,
     err: &mut E,
 ) -> Outcome
-    ensures { (answer : Given) → (fault ≡ Fault.Memory) ⊎ (answer ≡ told_words words.now fault) →
+    ensures { (answer : Given) →
+        (fault ≡ Fault.Memory) ⊎ (answer ≡ told_words (command_words words.now) fault) →
         EndsEarly (named_tool words.now) answer (streams (O.moment out.old) (E.moment err.old))
         (streams (O.moment out.new) (E.moment err.new)) result }
 {
     end(
         named_tool(words),
-        answer_to_words(alloc, words, fault),
+        answer_to_words(alloc, command_words(words), fault),
         out,
         err,
     )
@@ -52,11 +55,11 @@ fn answer_to_words(alloc: Global, words: &[Word], fault: WordFault) -> Answer
     }
 }
 
-// The tool that the first word names.
+// The tool that the first word names, of a plan the first behind its form.
 fn named_tool(words: &[Word]) -> Option<Tool>
     ensures { result ≡ named_tool words.now }
 {
-    Tool::named(words.first()?.as_slice())
+    Tool::named(command_words(words).first()?.as_slice())
 }
 
 /// Tells why the command doesn't run.

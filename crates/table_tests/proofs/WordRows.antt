@@ -27,7 +27,13 @@ valued letter value = record { letter = byte letter; value = Some (codes value) 
 
 abbrev request : Tool → List Given → List Word → Result Request WordFault
 request tool options operands =
-    Ok (record { tool = tool; prefix = codes "R"; options = options; operands = operands })
+    Ok (record {
+      tool = tool;
+      prefix = codes "R";
+      options = options;
+      operands = operands;
+      plan = None;
+    })
 
 abbrev one : String → List Word
 one operand = codes operand ∷ []
@@ -133,6 +139,7 @@ asked = record {
   prefix = codes "R";
   options = valued "g" "5" ∷ flagged "r" ∷ valued "K" "A=1" ∷ valued "g" "007" ∷ valued "K" "B=" ∷ [];
   operands = one "ann";
+  plan = None;
 }
 
 asks : request_of (words_of "groupadd -P R -g 5 -r -K A=1 -g 007 -K B= ann") ≡ Ok asked

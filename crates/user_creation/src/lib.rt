@@ -2,7 +2,7 @@
 //! of login.defs(5) and the day.
 //!
 //! `useradd` tests the refusals in their order, and then builds the script of its edits;
-//! `useradd_report` tells of a hash that all can read, and of ranges that are inherited (`notice`).
+//! `useradd_output` tells of a hash that all can read, and of ranges that are inherited (`notice`).
 //! `plan` has the IDs and ranges that the user is to get, `ranges` those of subuid(5) and subgid(5),
 //! `records` the new lines, and `script` the edits.
 #![tactic(auto)]
@@ -15,4 +15,4 @@ mod records;
 mod script;
 
 pub use creation::useradd;
-pub use notice::useradd_report;
+pub use notice::useradd_output;

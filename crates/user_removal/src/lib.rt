@@ -2,7 +2,7 @@
 //! settings of login.defs(5).
 //!
 //! `userdel` refuses a user that isn't there, and then builds the script of its edits;
-//! `userdel_report` tells why the group of the user's name is kept. `own_group` has that group, and
+//! `userdel_output` tells why the group of the user's name is kept. `own_group` has that group, and
 //! `others` the users with whom an ID is shared.
 #![tactic(auto)]
 
@@ -10,4 +10,4 @@ mod others;
 mod own_group;
 mod removal;
 
-pub use removal::{userdel, userdel_report};
+pub use removal::{userdel, userdel_output};

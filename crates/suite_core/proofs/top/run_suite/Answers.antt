@@ -3,6 +3,7 @@ use Rattle.acct_text.specs.Bytes.{Bytes}
 use Rattle.account_model.specs.declared.word_fault.WordFault.TheVariants.{Memory as NoMemory}
 use Rattle.acct_outside.specs.declared.CommitStage.TheVariants.{Before}
 use Rattle.account_model.specs.declared.tool.Tool.{Tool}
+use Rattle.account_model.specs.PlanWords.{command_words}
 use Rattle.account_model.specs.Request.{Request}
 use Rattle.option_words.specs.Parsed.{request_in}
 use Rattle.suite_answers.specs.declared.cause.Cause.TheVariants.{Memory}
@@ -23,11 +24,12 @@ returns-in-Err-clause-syntax g c = λ found is. (
   refl,
   refl,
   refl,
-  c.refuse_words.ensures (told_words c.args.words.now found) (elim c.in-Err.ensures.first_fault [
-    | inl other ↦ inr (ap (told_words c.args.words.now)
-        (let same : Some found ≡ Some c.in-Err.fault = sym is ∙ other in cc same))
-    | inr memory ↦ inl memory
-  ]),
+  c.refuse_words.ensures (told_words (command_words c.args.words.now) found)
+      (elim c.in-Err.ensures.first_fault [
+        | inl other ↦ inr (ap (told_words (command_words c.args.words.now))
+            (let same : Some found ≡ Some c.in-Err.fault = sym is ∙ other in cc same))
+        | inr memory ↦ inl memory
+      ]),
 )
 
 pub returns-in-Err-clause-ran : goal.returns-in-Err-clause-ran

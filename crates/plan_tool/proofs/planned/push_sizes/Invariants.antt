@@ -1,0 +1,10 @@
+use Rattle.std.proofs.Common.{◌≡◌, ◌++◌, map, take}
+use Rattle.std.specs.Prelude.{flat_map}
+use Rattle.account_model.specs.PlanTexts.{size_line}
+use Rattle.plan_tool.specs.SeenChanges.{seen_change}
+use Rattle.plan_tool.proofs.planned.push_sizes.Given as goal
+
+-- the sizes so far stand behind the text
+abbrev pub invariant-loop-change : goal.invariant-loop-change
+invariant-loop-change l = l.out
+    ≡ l.fn.out ++ flat_map size_line (map seen_change (take l.change-index l.change-items))

@@ -1,0 +1,3 @@
+pub mod SeenChanges
+pub mod SeenDiff
+pub mod Planned
