@@ -99,7 +99,7 @@ fn shown<'f, M: TableRecord, P: PrintedLine<'f, M>, H: TableRecord, L: AccountLi
     decided(alloc, pair, new_main, new_hashes)
 }
 
-//// The first name that the changes touch and of which its table has several.
+/// The first name that the changes touch and of which its table has several.
 pub(crate) fn multiple<
     'f,
     M: TableRecord,
