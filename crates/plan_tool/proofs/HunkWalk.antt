@@ -1,6 +1,6 @@
 -- The walk over the lines of a diff: a line that is shown goes to the hunk that has begun (`shown-on`),
 -- one that isn't ends it (`hunk-ends`), and so does the end (`last-hunk`).
-use Rattle.std.proofs.Common.{◌≡◌, ℕ, suc, ◌+◌, ◌-◌, ◌<◌, ◌≤◌, Bool, true, false, List, [], ◌∷◌, ◌++◌, length, refl, sym, ◌∙◌, ap, ap₂, append_assoc, append-nil, arith}
+use Rattle.std.proofs.Common.{◌≡◌, ℕ, suc, ◌+◌, ◌-◌, ◌<◌, ◌≤◌, Bool, true, false, List, [], ◌∷◌, ◌++◌, length, refl, sym, ◌∙◌, ap, append_assoc, append-nil, arith}
 use Rattle.std.specs.Prelude.{flat_map, not}
 use Rattle.std.specs.List.{onto_first, range_with_len, slice_split}
 use Rattle.std.proofs.lemmas.List.{map-id}

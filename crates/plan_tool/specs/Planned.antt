@@ -1,5 +1,4 @@
 -- The decision of a plan, by that of its command: no table changes, and what is printed tells of it.
-use Rattle.std.specs.Prelude.{List}
 use Rattle.acct_text.specs.declared.files.Files.{Files}
 use Rattle.account_model.specs.declared.plan_form.PlanForm.{PlanForm}
 use Rattle.account_model.specs.PlanTexts.{told}

@@ -1,5 +1,5 @@
 -- The files and changes of a plan as account_model has them.
-use Rattle.std.specs.Prelude.{◌++◌, codes, List, find, filter_map, Option, option_map}
+use Rattle.std.specs.Prelude.{◌++◌, codes, List, find, Option, option_map}
 use Rattle.std.specs.Option.{option_or}
 use Rattle.acct_text.specs.declared.Tab.{Tab}
 use Rattle.acct_text.specs.declared.Tab.TheVariants.{Passwd, Shadow, Group, Gshadow, Subuid, Subgid}

@@ -1,6 +1,6 @@
 -- The lines of a diff as account_model has them, and where they stand. Places count from 0.
 use Rattle.std.specs.List.{range_with_len}
-use Rattle.std.specs.Prelude.{◌≡◌, ℕ, ◌+◌, ◌-◌, ◌≤◌, Bool, true, false, List, [], ◌∷◌, length, map, take, count_by, nat_le, slice_get, bytes_eq, Option, None, Some, IsSomeAnd, if◌then◌else◌}
+use Rattle.std.specs.Prelude.{◌≡◌, ℕ, ◌+◌, ◌-◌, ◌≤◌, Bool, true, false, List, [], ◌∷◌, length, map, take, count_by, nat_le, slice_get, bytes_eq, Option, None, Some, IsSomeAnd}
 use Rattle.std.specs.HashMap.{get_by}
 use Rattle.acct_text.specs.Bytes.{Bytes}
 use Rattle.acct_text.specs.Lines.{Line}

@@ -1,4 +1,4 @@
-use Rattle.std.proofs.Common.{◌++◌, ◌∙◌, ap, ap₂, get_or, length, arith, sym}
+use Rattle.std.proofs.Common.{◌++◌, ◌∙◌, ap, ap₂, length, arith, sym}
 use Rattle.std.specs.Option.{option_to_list}
 use Rattle.acct_text.specs.declared.Tab.TheVariants.{Passwd}
 use Rattle.plan_tool.specs.SeenChanges.{change_told}

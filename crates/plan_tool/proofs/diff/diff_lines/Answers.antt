@@ -4,7 +4,7 @@ use Rattle.account_model.specs.declared.fate.Fate.TheVariants.{New}
 use Rattle.account_model.specs.PlanDiff.{diff_lines, fated, lines_between, lines_until}
 use Rattle.acct_tables.specs.SeenLines.{seen_line}
 use Rattle.acct_tables.specs.declared.lines.FileLine.{FileLine}
-use Rattle.plan_tool.specs.SeenDiff.{passed_by, seen_diff, seen_lines}
+use Rattle.plan_tool.specs.SeenDiff.{seen_diff, seen_lines}
 use Rattle.plan_tool.proofs.DiffWalk.{passed-inside, walk-on}
 use Rattle.plan_tool.proofs.diff.diff_lines.Goals as goal
 

@@ -2,7 +2,7 @@ use Rattle.std.proofs.Common.{◌≡◌, ◌+◌, ◌<◌, ◌∙◌, ◌++◌, 
 use Rattle.std.proofs.lemmas.List.{length-map}
 use Rattle.std.proofs.lemmas.Result.{on_ok_weaker}
 use Rattle.plan_tool.specs.SeenDiff.{hunk_between, seen_diff, seen_diff_line}
-use Rattle.plan_tool.proofs.HunkLemmas.{point-moved, point-within}
+use Rattle.plan_tool.proofs.HunkLemmas.{point-moved}
 use Rattle.plan_tool.proofs.HunkWalk.{hunk-ends, hunks_from, last-hunk, shown-on}
 use Rattle.plan_tool.proofs.hunks.push_hunks.Goals as goal
 use Rattle.plan_tool.proofs.hunks.push_hunks.Goals.{then-not-is_shown+in_ok-push_hunk, else-not-is_shown}
