@@ -198,7 +198,8 @@ module _ (old new : Contents)
 -- ---- The tables of a change
 
 -- what tables hold for one of them is what they list for it
-listed-bytes : (tables : List NewTable) (table : Tab) → new_bytes tables table ≡ listed_in tables table
+listed-bytes : (tables : List NewTable) (table : Tab) →
+    new_bytes tables table ≡ listed_in tables table
 listed-bytes [] table = refl
 listed-bytes (new ∷ tables) table = elim (cases_Bool (same_table new.table table)) [
   | inl same ↦ rw same refl
@@ -209,7 +210,8 @@ module _ (old new : Files)
     (stands : (table : Tab) → is_some (table_of new table) ≡ is_some (table_of old table)) where
   -- what the tables that differ hold for a table, or else what stood there, is what will stand there
   new-or-old : (table : Tab) →
-      option_or (new_bytes (changed_tables (table_of old) (table_of new)) table) (table_of old table)
+      option_or (new_bytes (changed_tables (table_of old) (table_of new)) table)
+      (table_of old table)
       ≡ table_of new table
   new-or-old table = ap (λ (bytes : Option Bytes). option_or bytes (table_of old table))
       (listed-bytes (changed_tables (table_of old) (table_of new)) table)
@@ -269,8 +271,9 @@ module _ (files : Files)
         Agree tool files (answer_by (option_map TableTooLarge large) same)
         (decision_by tables (written_output written))
     by-tables [] true large none same is =
-        subst (λ (one : Option Tab). Agree tool files (answer_by (option_map TableTooLarge one) true)
-        (DecidesSame (written_output written))) is (stays written)
+        subst (λ (one : Option Tab). Agree tool files
+        (answer_by (option_map TableTooLarge one) true) (DecidesSame (written_output written))) is
+        (stays written)
     by-tables [] false large none differs is =
         absurd (true≢false (sym (none-differs (table_of files) (table_of written.files) small stands
         all_tables none) ∙ differs))
@@ -289,7 +292,8 @@ module _ (files : Files)
         (decision_by changed (written_output written))
     written-agrees =
         subst (λ (problem : Option FileProblem). Agree tool files
-        (answer_by problem (files_eq files written.files)) (decision_by changed (written_output written)))
+        (answer_by problem (files_eq files written.files))
+        (decision_by changed (written_output written)))
         (sym (new-among (table_of files) (table_of written.files) small stands all_tables))
         (by-tables changed (files_eq files written.files) (large_table changed) refl refl refl)
 
@@ -309,7 +313,8 @@ module _ (files : Files)
     tool-agrees (Ok made) is = written-agrees request.tool (written_by request.tool made)
         (made-stands (action_of request input day files settings) files made is)
 
-    lines-agree : is_batch request.tool ≡ true → (came : Result Written LineRefusal) → lines ≡ came →
+    lines-agree : is_batch request.tool ≡ true → (came : Result Written LineRefusal) →
+        lines ≡ came →
         Agree request.tool files (answer_lines files came) (decision_of_lines files came)
     lines-agree is_one (Err line) is = line_refuses line
     lines-agree is_one (Ok written) is =
@@ -379,8 +384,8 @@ module _ (asked : Question) (files : Files) (defs : Option Bytes) where
       by : (cause : AnswerCause) → (answer_on asked files defs).cause ≡ cause →
           DecidesOn asked files defs (decided_of files cause given)
       by (Changed new) is =
-          let allowed = changes-is asked.request asked.command.input asked.command.day files defs new
-          (ap new_files is) in (
+          let allowed = changes-is asked.request asked.command.input asked.command.day files defs
+          new (ap new_files is) in (
             record { has_cause = refl; has_status = refl; has_out = refl; has_err = refl },
             is ∙ ap Changed (sym (with-changed files new allowed)),
             makes-change files new allowed,
