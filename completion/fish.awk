@@ -19,7 +19,7 @@ $1 == "tool" {
     tool = $2
     seen = "'__fish_seen_subcommand_from " tool "'"
     lines = lines "\n"
-    add("__fish_use_subcommand -a " tool " -d " spelled($3))
+    add("__accounts_needs_tool -a " tool " -d " spelled($3))
     add(seen " -l help -d 'tell the options, rules and statuses'")
     next
 }

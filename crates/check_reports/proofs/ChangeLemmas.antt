@@ -1,21 +1,27 @@
--- Claim: what a change meets in a line is met among records (`met-by`, `found-more`), and names of which an order tells
--- several are multiple (`several-order`). Way: by what the line reads as.
-use Rattle.std.proofs.Common.{◌≡◌, ◌∙◌, ℕ, ◌+◌, Bool, true, false, List, [], ◌∷◌, map, refl, sym, ap}
-use Rattle.std.specs.Prelude.{Option, Some, None, ◌&&◌, count_by, find, nat_le, slice_get, is_none, is_some, option_map, if◌then◌else◌}
+-- Claim: what a change meets in a line is met among records (`met-by`, `found-here`), and nothing where names differ
+-- (`differ-none`); names of which an order tells several are multiple (`several-order`). Way: by what the line reads as.
+use Rattle.std.proofs.Common.{◌≡◌, ◌∙◌, ℕ, ◌+◌, ◌≤◌, Bool, true, false, List, [], ◌∷◌, ◌++◌, append_assoc, append-nil, map, refl, sym, ap, arith}
+use Rattle.std.specs.Prelude.{Option, Some, None, IfSome, ◌&&◌, count_by, find, nat_le, slice_get, not, is_none, is_some, Result, Ok, Err, MatchResult, option_map, if◌then◌else◌}
 use Rattle.std.specs.List.{cons_option, position_from, position_or_len}
+use Rattle.std.proofs.lemmas.Bool.{lt-leb}
 use Rattle.std.proofs.lemmas.Option.{slice_get-map}
 use Rattle.std.proofs.lemmas.List.Folds.{find_at}
 use Rattle.std.proofs.lemmas.List.Sums.{sum_by-cons}
-use Rattle.acct_text.specs.Lines.{Line}
+use Rattle.std.specs.Result.{result_ok}
+use Rattle.acct_text.specs.Bytes.{newline}
+use Rattle.acct_text.specs.Lines.{Line, file_bytes}
 use Rattle.account_model.specs.declared.fault.LineFault.{LineFault}
 use Rattle.account_model.specs.Format.{Format, is_named, count_named, find_named, records_of}
 use Rattle.account_model.specs.Conversion.{shown, with_shown}
-use Rattle.account_model.specs.Edits.{Become}
-use Rattle.acct_tables.specs.NameIndex.{are_several, has_name, records_at, told}
+use Rattle.account_model.specs.Edits.{Become, edited, is_multiple, line_becomes, touches}
+use Rattle.account_model.specs.Tables.{table_after}
+use Rattle.acct_tables.specs.NameIndex.{TellsAtMost, are_several, has_name, records_at, told}
+use Rattle.acct_tables.specs.declared.name_index.NamedLines.{NamedLines}
 use Rattle.acct_tables.proofs.NameIndexLemmas.{none-counts}
+use Rattle.table.specs.TablesOfLines.{lines_in}
 use Rattle.check_reports.specs.declared.sorting.ByPlace.{ByPlace}
-use Rattle.check_reports.specs.LineChanges.{is_met, met_in, touches_line}
-use Rattle.check_reports.specs.Secrets.{HasSecrets, found_text, secret_texts, shown_by}
+use Rattle.check_reports.specs.LineChanges.{is_met, met_in}
+use Rattle.check_reports.specs.Secrets.{HasSecrets, found_text, shown_by}
 use Rattle.check_reports.specs.declared.secrets.Secrets.{Secrets}
 use Rattle.check_reports.specs.Converted.{accounts_of}
 use Rattle.check_reports.proofs.PlaceLemmas.{place-or-count}
@@ -27,14 +33,21 @@ pub if-false :
 if-false some true = refl
 if-false some false = refl
 
--- a text with a fault is no record
-pub faulted-none :
-    {R X : Type 0} (f : R → X) (found : Option R) (fault : Option LineFault) (first : LineFault)
+-- what isn't so
+not-so : (b : Bool) → not b ≡ true → b ≡ false
+not-so true is = absurd cc
+not-so false is = refl
+
+-- what a line shows is its record, where it is none by its fault
+pub shown-read :
+    {L R : Type 0} (shown : L → R) (found : Option R) (fault : Option LineFault)
+    (read : Result L LineFault)
     → is_some found ≡ is_none fault
-    → fault ≡ Some first
-    → option_map f found ≡ None
-faulted-none f None fault first same is = refl
-faulted-none f (Some r) fault first same is =
+    → MatchResult read (λ line. found ≡ Some (shown line)) (λ first. fault ≡ Some first)
+    → option_map shown (result_ok read) ≡ found
+shown-read shown found fault (Ok line) same is = sym is
+shown-read shown None fault (Err first) same is = refl
+shown-read shown (Some r) fault (Err first) same is =
     let none : true ≡ false = same ∙ ap is_none is in absurd cc
 
 module _ {R : Type 0} (format : Format R) where
@@ -70,46 +83,46 @@ module _ {R : Type 0} (format : Format R) where
       (none-counts (has_name name) 0 names)
       ∙ ap (nat_le 2) (count-names name records)
 
-  -- what is met in a line, by what it reads as
+  -- what is met in the line of a record
   pub met-by :
-      (f : R → List R) (records : List R) (order : ByPlace) (text name : List ℕ) (o : Option R)
-      → format.read text ≡ o
-      → Some name ≡ option_map format.name o
+      (f : R → List R) (records : List R) (order : ByPlace) (text : List ℕ) (r : R)
+      → format.read text ≡ Some r
       → IsOrderOf format records order
       → met_in format f records text
-      ≡ (if touches_line format f text && are_several (told order.names name)
-      then Some name else None)
-  met-by f records order text name None reads named is = absurd cc
-  met-by f records order text name (Some r) reads named is =
-      let same : name ≡ format.name r = cc in
-      rw (met_in, touches_line, reads, same, several-order records order (format.name r) is) refl
+      ≡ (if touches format (Become f ∷ []) r && are_several (told order.names (format.name r))
+      then Some (format.name r) else None)
+  met-by f records order text r reads is =
+      rw (met_in, reads, several-order records order (format.name r) is) refl
 
-  -- a line that is no record meets none
-  pub met-none :
-      (f : R → List R) (records : List R) (text : List ℕ)
-      → None ≡ option_map format.name (format.read text)
-      → met_in format f records text ≡ None
-  met-none f records text none = by (format.read text) refl none
-    where
-      by :
-          (o : Option R)
-          → format.read text ≡ o
-          → None ≡ option_map format.name o
-          → met_in format f records text ≡ None
-      by None reads none = rw (met_in, reads) refl
-      by (Some r) reads none = absurd cc
+  -- where the names differ, none has several
+  differ-single :
+      (found : Option NamedLines)
+      → IfSome found (λ found. found.count ≤ 1)
+      → are_several found ≡ false
+  differ-single None few = refl
+  differ-single (Some found) few = lt-leb 2 found.count (omega (arith, few))
 
-  -- nor one that isn't touched
-  pub met-untouched :
-      (f : R → List R) (records : List R) (text : List ℕ)
-      → touches_line format f text ≡ false
-      → met_in format f records text ≡ None
-  met-untouched f records text untouched = by (format.read text) refl
+  -- so that none is met
+  pub differ-none :
+      (f : R → List R) (all records : List R) (order : ByPlace)
+      → IsOrderOf format all order
+      → TellsAtMost 1 (told order.names)
+      → find (is_met format f all) records ≡ None
+  differ-none f all [] order is few = refl
+  differ-none f all (r ∷ records) order is few =
+      let one : is_multiple format all r ≡ false =
+      sym (several-order all order (format.name r) is)
+      ∙ differ-single (told order.names (format.name r)) (few (format.name r)) in
+      passes (touches format (Become f ∷ []) r) (is_multiple format all r) one
+      (differ-none f all records order is few)
     where
-      by : (o : Option R) → format.read text ≡ o → met_in format f records text ≡ None
-      by None reads = rw (met_in, reads) refl
-      by (Some r) reads =
-          let not = rw (touches_line, reads) at untouched in rw (met_in, reads, is_met, not) refl
+      passes :
+          (b c : Bool)
+          → c ≡ false
+          → find (is_met format f all) records ≡ None
+          → (if b && c then Some r else find (is_met format f all) records) ≡ None
+      passes true c single rest = rw single rest
+      passes false c single rest = rest
 
   -- the first that is met behind a line that meets none
   pub found-behind :
@@ -159,22 +172,6 @@ module _ {R : Type 0} (format : Format R) where
           passes true met = met
           passes false met = absurd cc
 
-  -- the texts of lines are those of their records
-  pub texts-of-records :
-      (secret : R → List ℕ) (lines : List Line)
-      → secret_texts format secret lines ≡ map secret (records_of format lines)
-  texts-of-records secret [] = refl
-  texts-of-records secret (line ∷ lines) =
-      by (format.read line.text) (texts-of-records secret lines)
-    where
-      by :
-          (o : Option R)
-          → secret_texts format secret lines ≡ map secret (records_of format lines)
-          → cons_option (option_map secret o) (secret_texts format secret lines)
-          ≡ map secret (cons_option o (records_of format lines))
-      by None later = later
-      by (Some r) later = ap (λ rest. secret r ∷ rest) later
-
   -- what is kept under a name is the text of its first record
   pub found-named :
       (secret : R → List ℕ) (records : List R) (secrets : Secrets) (name : List ℕ)
@@ -186,6 +183,22 @@ module _ {R : Type 0} (format : Format R) where
       (place-or-count format records secrets.order name has.order)
       ∙ slice_get-map secret records (position_or_len (is_named format name) records)
       ∙ ap (option_map secret) (sym (find_at (is_named format name) records))
+
+  -- the line of a record that becomes another one
+  pub other-pushed :
+      (line : Line) (r s : R) (old made new : List ℕ)
+      → not (format.same r s) ≡ true
+      → made ≡ old ++ format.print s
+      → new ≡ made ++ (if line.ended then newline ∷ [] else [])
+      → new ≡ old ++ file_bytes (line_becomes format line r (s ∷ []))
+  other-pushed line r s old made new differs pushed ended =
+      let other = not-so (format.same r s) differs in
+      let end = if line.ended then newline ∷ [] else [] in
+      ended
+      ∙ ap (λ made. made ++ end) pushed
+      ∙ append_assoc old (format.print s) end
+      ∙ ap (λ bytes. old ++ bytes) (sym (append-nil (format.print s ++ end)))
+      ∙ (rw other refl)
 
   -- what shows a record by what is kept
   pub shown-is :
@@ -216,3 +229,11 @@ module _ {R : Type 0} (format : Format R) where
   shown-edits hashes secret with_secret hash records secrets found =
       λ i. Become (λ m.
       shown-is hashes secret with_secret hash records secrets m (found m) i ∷ []) ∷ []
+
+  -- the bytes of what becomes of the lines of a table are those of the table after the edit
+  pub table-walked :
+      (f : R → List R) (file : Option (List ℕ)) (text : List ℕ)
+      → text ≡ file_bytes (edited format (lines_in file) (Become f))
+      → table_after format (Become f ∷ []) file ≡ option_map (λ _. text) file
+  table-walked f None text is = refl
+  table-walked f (Some bytes) text is = ap Some (sym is)

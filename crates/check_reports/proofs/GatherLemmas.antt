@@ -3,9 +3,6 @@
 use Rattle.std.proofs.Common.{◌≡◌, ◌∙◌, ℕ, true, false, not, List, refl, sym, ap, inl, inr}
 use Rattle.std.specs.Prelude.{◌||◌, Option, None, Some, bytes_eq, is_none, is_some}
 use Rattle.std.proofs.lemmas.Bool.{cases_Bool, eq-eqb}
-use Rattle.account_model.specs.declared.fault.LineFault.{LineFault}
-use Rattle.account_model.specs.Format.{Format}
-use Rattle.check_reports.specs.LineChanges.{touches_line}
 use Rattle.account_model.specs.declared.records.ShadowRecord.{ShadowRecord}
 use Rattle.account_model.specs.Records.{days_eq, shadow_format}
 use Rattle.account_model.proofs.SameLaws.{bytes-self}
@@ -36,17 +33,3 @@ shadow_differs r hash day =
       ]
       | inr other ↦ rw (name, other) refl
     ]
-
--- a text with a fault isn't touched
-pub touches-faulted :
-    {R : Type 0} (format : Format R) (f : R → List R) (text : List ℕ) (fault : Option LineFault)
-    (first : LineFault)
-    → is_some (format.read text) ≡ is_none fault
-    → fault ≡ Some first
-    → touches_line format f text ≡ false
-touches-faulted {R = R} format f text fault first same is = by (format.read text) refl
-  where
-    by : (o : Option R) → format.read text ≡ o → touches_line format f text ≡ false
-    by None reads = rw (touches_line, reads) refl
-    by (Some r) reads =
-        let none : true ≡ false = ap is_some (sym reads) ∙ same ∙ ap is_none is in absurd cc

@@ -17,12 +17,14 @@ use Rattle.account_model.specs.Action.{multiple_in}
 use Rattle.account_model.specs.Records.{hash_alone}
 use Rattle.account_model.specs.Settings.{Setting, number}
 use Rattle.account_model.specs.Conversion.{Accounts, gathered, shadow_of, take_password, taken_over, users}
-use Rattle.account_model.specs.Edits.{Become, Edit, becomes, becoming_touches, edited_by, is_multiple, line_becomes, touches}
+use Rattle.account_model.specs.Edits.{Become, Edit, becomes, becoming_touches, edited, edited_by, is_multiple, line_becomes, touches}
 use Rattle.account_model.specs.Format.{Format, find_named, has_named}
 use Rattle.account_model.specs.Hashes.{elsewhere}
 use Rattle.account_model.specs.RecordEdits.{IsWrittenEdit, TellsSame}
 use Rattle.account_model.specs.Tables.{table_after}
 use Rattle.account_model.specs.Written.{IsWritten}
+use Rattle.acct_tables.proofs.EditedFiles.{edit-found}
+use Rattle.table.specs.TablesOfLines.{lines_in}
 use Rattle.check_reports.specs.Gathered.{gathered_by, gathered_edits, made_edits, taken_edits}
 use Rattle.check_reports.specs.Secrets.{found_text}
 use Rattle.check_reports.specs.declared.secrets.Secrets.{Secrets}
@@ -221,3 +223,20 @@ pub user-edits :
     ≡ gathered users (take_password day) (shadow_of settings day) mains
 user-edits settings day minimum maximum warning mains least most warned =
     rw (least, most, warned) refl
+
+-- the bytes of a table of hashes whose lines became others, with what is made of main records, are those of the table after
+-- the edits
+pub gathered-walked :
+    {M H : Type 0} (hashes : Format H) (fields : Secrets) (take : List ℕ → H → H) (make : M → H)
+    (mains : List M)
+    → hashes.read [] ≡ None
+    → AllByRecursion (IsWrittenEdit hashes) (gathered_edits hashes fields take make mains)
+    → (file : Option (List ℕ)) (kept grown : List ℕ)
+    → kept ≡ file_bytes (edited hashes (lines_in file) (Become (gathered_by hashes fields take)))
+    → grown ≡ file_bytes (edited_by hashes (made_edits make mains) (lines_of kept))
+    → table_after hashes (gathered_edits hashes fields take make mains) file
+    ≡ option_map (λ _. grown) file
+gathered-walked hashes fields take make mains no_blank written None kept grown is made = refl
+gathered-walked hashes fields take make mains no_blank written (Some text) kept grown is made =
+    ap Some (sym (made ∙ ap (λ lines. file_bytes (edited_by hashes (made_edits make mains) lines))
+    (edit-found hashes no_blank (Become (gathered_by hashes fields take)) written.0 text kept is)))

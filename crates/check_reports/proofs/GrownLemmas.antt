@@ -1,11 +1,14 @@
--- Claim: a table with a new record has its lines and tells its name (`grown-more`, `more-grown`), and one that has the
--- name stays (`grown-has`, `grown-none`); line by line they are all edits (`grown-walk`, `written-walk`). Way: by what the
+-- Claim: a table with a new record has its lines and its name (`grown-more`, `more-grown`), and one that has the name
+-- stays (`grown-has`, `grown-known`); line by line they are all edits (`grown-walk`, `written-walk`). Way: by what the
 -- line reads as.
-use Rattle.std.proofs.Common.{◌≡◌, ◌∙◌, ℕ, ◌≤◌, Bool, true, false, List, [], ◌∷◌, refl, sym, ap, subst, arith}
-use Rattle.std.specs.Prelude.{◌||◌, Option, None, Some, IfSome, bytes_eq, is_some, option_map, option_to_list, if◌then◌else◌}
+use Rattle.std.proofs.Common.{◌≡◌, ◌∙◌, ℕ, ◌+◌, ◌-◌, length, Bool, true, false, List, [], ◌∷◌, ◌++◌, append_assoc, length-append, refl, sym, ap, subst, arith}
+use Rattle.std.specs.Prelude.{◌||◌, ◌==◌, Option, None, Some, bytes_eq, slice_get, is_some, option_map, option_to_list, if◌then◌else◌}
 use Rattle.std.specs.List.{AllByRecursion, cons_option}
 use Rattle.std.specs.Option.{option_or}
+use Rattle.std.proofs.Math.Bool.{or-false}
 use Rattle.std.proofs.lemmas.List.Folds.{find-append}
+use Rattle.std.proofs.lemmas.Slice.Eq.{bytes_eq-Decides}
+use Rattle.acct_text.specs.Bytes.{newline}
 use Rattle.acct_text.specs.Lines.{Line, file_bytes, lines_of}
 use Rattle.acct_text.proofs.LinesLaws.{lines_of-are}
 use Rattle.account_model.specs.Edits.{Add, edited, edited_by, with_line}
@@ -13,46 +16,67 @@ use Rattle.account_model.specs.Format.{Format, find_named, has_named, is_named, 
 use Rattle.account_model.specs.RecordEdits.{IsWrittenEdit, TellsSame}
 use Rattle.account_model.specs.Written.{IsWritten}
 use Rattle.account_model.proofs.EditLaws.{edit-is}
-use Rattle.acct_tables.specs.NameIndex.{IsNoted, Tells, line_names, told, with_last}
-use Rattle.acct_tables.specs.declared.name_index.NamedLines.{NamedLines}
+use Rattle.acct_tables.specs.NameIndex.{Tells, line_names, told}
+use Rattle.acct_tables.specs.SeenLines.{end_for, missing_end}
 use Rattle.acct_tables.proofs.EditedFiles.{edit-found}
+use Rattle.acct_tables.proofs.LinesAhead.{appended, last-tells}
 use Rattle.acct_tables.proofs.NamedRecords.{told-has}
 use Rattle.check_reports.specs.declared.making.Grown.{Grown}
 use Rattle.check_reports.specs.Gathered.{IsGrown, made_edits}
 
--- a name is told with one more noted, where it is found with one more record
+-- a name is found with one more record, where it is told or found with one more main record
 told-more :
-    {R : Type 0} (found : Option R) (there same : Bool) (r : R) (more : NamedLines)
-    (old : Option NamedLines)
-    → is_some found ≡ (there || is_some old)
-    → is_some (option_or found (if same then Some r else None))
-    ≡ (there || is_some (if same then Some more else old))
-told-more None true same r more old is = absurd cc
-told-more None false true r more old is = refl
-told-more None false false r more old is = is
-told-more (Some found) true same r more old is = refl
-told-more (Some found) false true r more old is = refl
-told-more (Some found) false false r more old is = is
+    {M H : Type 0} (found : Option H) (there same : Bool) (h : H) (m : M) (before : Option M)
+    → is_some found ≡ (there || is_some before)
+    → is_some (option_or found (if same then Some h else None))
+    ≡ (there || is_some (option_or before (if same then Some m else None)))
+told-more None true same h m before is = absurd cc
+told-more None false true h m None is = refl
+told-more None false false h m None is = refl
+told-more None false same h m (Some other) is = absurd cc
+told-more (Some found) true same h m before is = refl
+told-more (Some found) false same h m None is = absurd cc
+told-more (Some found) false same h m (Some other) is = refl
 
--- a name that wasn't told is told once
-told-once :
-    (same : Bool) (found other : Option NamedLines)
-    → is_some found ≡ false
-    → IfSome other (λ lines. lines.count ≤ 1)
-    → IfSome (if same then Some (with_last 1 found) else other) (λ lines. lines.count ≤ 1)
-told-once true None other none few = omega arith
-told-once true (Some found) other none few = absurd cc
-told-once false found other none few = few
-
--- nothing is told of a second
-or-false : (b : Bool) → b ≡ (b || false)
-or-false true = refl
-or-false false = refl
+-- one more main record changes nothing where its name is told or found
+told-same :
+    {M : Type 0} (there same : Bool) (m : M) (before : Option M)
+    → (same ≡ true → (there || is_some before) ≡ true)
+    → (there || is_some before)
+    ≡ (there || is_some (option_or before (if same then Some m else None)))
+told-same true same m before known = refl
+told-same false true m None known = known refl
+told-same false false m None known = refl
+told-same false same m (Some other) known = refl
 
 -- neither of two
 pub second-false : (a b : Bool) → a ≡ false → (a || b) ≡ b
 second-false true b none = absurd cc
 second-false false b none = refl
+
+-- what is missing behind a text with this last byte
+pub ended-by :
+    (text slice : List ℕ) (last : ℕ)
+    → slice ≡ text
+    → Some last ≡ slice_get slice (length slice - 1)
+    → missing_end text ≡ (if last == newline then [] else newline ∷ [])
+ended-by text slice last is found =
+    ap missing_end (sym is) ∙ sym (last-tells slice) ∙ ap end_for (sym found)
+
+-- a line that is pushed piece by piece is appended
+pub line-pushed :
+    (old line first second third : List ℕ)
+    → first ≡ old ++ missing_end old
+    → second ≡ first ++ line
+    → third ≡ second ++ newline ∷ []
+    → third ≡ file_bytes (with_line line (lines_of old))
+line-pushed old line first second third ended pushed closed =
+    let end = missing_end old in
+    closed
+    ∙ ap (λ bytes. bytes ++ newline ∷ [])
+    (pushed ∙ ap (λ bytes. bytes ++ line) ended ∙ append_assoc old end line)
+    ∙ append_assoc old (end ++ line) (newline ∷ [])
+    ∙ appended old line ((end ++ line) ++ newline ∷ []) refl
 
 module _ {M H : Type 0} (main : Format M) (format : Format H) (make : M → H) where
   -- the edits of a line's record come first
@@ -74,25 +98,17 @@ module _ {M H : Type 0} (main : Format M) (format : Format H) (make : M → H) w
   written-walk (Some m) rest written = ((written.0, tt), written.1)
 
   module _ (named : (m : M) → format.name (make m) ≡ main.name m) where
-    -- a line that is no record makes none
-    pub grown-none :
-        (found : Option M) (lines : List Line)
-        → None ≡ option_map main.name found
-        → lines ≡ edited_by format (made_edits make (option_to_list found)) lines
-    grown-none None lines none = refl
-    grown-none (Some m) lines none = absurd cc
-
-    -- nor does one whose name is there
+    -- one whose name is there makes none
     pub grown-has :
-        (found : Option M) (name : List ℕ) (lines : List Line)
-        → Some name ≡ option_map main.name found
-        → has_named format name (records_of format lines) ≡ true
+        (found : Option M) (m : M) (lines : List Line)
+        → Some m ≡ found
+        → has_named format (main.name m) (records_of format lines) ≡ true
         → lines ≡ edited_by format (made_edits make (option_to_list found)) lines
-    grown-has None name lines is has = absurd cc
-    grown-has (Some m) name lines is has =
-        let is_name : name ≡ main.name m = cc in
-        let same = is_name ∙ sym (named m) in
-        rw (subst (λ name. has_named format name (records_of format lines) ≡ true) same has) refl
+    grown-has None m lines reads has = absurd cc
+    grown-has (Some other) m lines reads has =
+        let one : m ≡ other = cc in
+        rw (subst (λ name. has_named format name (records_of format lines) ≡ true)
+        (ap main.name one ∙ sym (named other)) has) refl
 
     module _ (no_blank : format.read [] ≡ None) (tells : TellsSame format) (m : M)
         (written : IsWritten format (make m)) (old new : Grown)
@@ -103,34 +119,29 @@ module _ {M H : Type 0} (main : Format M) (format : Format H) (make : M → H) w
 
       -- the new line is that of the record
       pub grown-more :
-          (found : Option M) (name : List ℕ)
+          (found : Option M)
           → Some m ≡ found
-          → Some name ≡ option_map main.name found
-          → has_named format name (records_of format (lines_of old.text)) ≡ false
+          → has_named format (main.name m) (records_of format (lines_of old.text)) ≡ false
           → lines_of new.text
           ≡ edited_by format (made_edits make (option_to_list found)) (lines_of old.text)
-      grown-more None name reads of_record lacks = absurd cc
-      grown-more (Some other) name reads of_record lacks =
+      grown-more None reads lacks = absurd cc
+      grown-more (Some other) reads lacks =
           let one : m ≡ other = cc in
-          let is_name : name ≡ main.name other = cc in
-          let same = is_name ∙ sym (named other) in
           more-lines
           ∙ (rw (
-            subst (λ name. has_named format name (records_of format (lines_of old.text))
-                ≡ false) same lacks,
+            subst (λ name. has_named format name (records_of format (lines_of old.text)) ≡ false)
+                (ap main.name one ∙ sym (named other)) lacks,
             one,
           ) refl)
 
-      -- and its name is told
+      -- and its name is that of one main record more
       pub more-grown :
-          (name : List ℕ)
-          → name ≡ main.name m
-          → IsGrown format old
-          → is_some (told old.added name) ≡ false
+          (before : List M)
+          → IsGrown main format before old
           → new.there ≡ old.there
-          → IsNoted name 1 (told old.added) (told new.added)
-          → IsGrown format new
-      more-grown name of_record grown lacks there noted = record {
+          → new.place ≡ old.place + 1
+          → IsGrown main format (before ++ m ∷ []) new
+      more-grown before grown there placed = record {
         names = λ other.
             ap (has_named format other) (ap (records_of format) more-lines
             ∙ edit-is format tells (Add (make m)) (lines_of old.text) (lines_of-are old.text).apart
@@ -139,14 +150,15 @@ module _ {M H : Type 0} (main : Format M) (format : Format H) (make : M → H) w
             (records_of format (lines_of old.text)) (make m ∷ []))
             ∙ ap (λ name. is_some (option_or
             (find_named format other (records_of format (lines_of old.text)))
-            (if bytes_eq name other then Some (make m) else None))) (named m ∙ sym of_record)
+            (if bytes_eq name other then Some (make m) else None))) (named m)
             ∙ told-more (find_named format other (records_of format (lines_of old.text)))
-            (is_some (told old.there other)) (bytes_eq name other) (make m)
-            (with_last 1 (told old.added name)) (told old.added other) (grown.names other)
-            ∙ (rw (there, noted other) refl);
-        few = λ other. subst (λ found. IfSome found (λ lines. lines.count ≤ 1)) (sym (noted other))
-            (told-once (bytes_eq name other) (told old.added name) (told old.added other) lacks
-            (grown.few other));
+            (is_some (told old.there other)) (bytes_eq (main.name m) other) (make m) m
+            (find_named main other before) (grown.names other)
+            ∙ ap (λ found. is_some (told old.there other) || is_some found)
+            (sym (find-append (is_named main other) before (m ∷ [])))
+            ∙ ap (λ there. is_some (told there other) || has_named main other (before ++ m ∷ []))
+            (sym there);
+        counted = placed ∙ omega (arith, grown.counted, length-append before (m ∷ []));
       }
 
 -- what is made of a record that is found prints as a line that reads back
@@ -159,28 +171,42 @@ made-written format make None m is written = absurd cc
 made-written format make (Some other) m is written =
     let same : m ≡ other = cc in subst (λ m. IsWritten format (make m)) (sym same) written.0
 
--- and its name is that of what was found
-pub name-found :
-    {M : Type 0} (main : Format M) (found : Option M) (m : M) (name : List ℕ)
-    → Some m ≡ found
-    → Some name ≡ option_map main.name found
-    → name ≡ main.name m
-name-found main None m name is of_record = absurd cc
-name-found main (Some other) m name is of_record =
-    let same : m ≡ other = cc in let named : name ≡ main.name other = cc in
-    named ∙ ap main.name (sym same)
-
 -- a table to which nothing was added is told
 pub grown-fresh :
-    {H : Type 0} (format : Format H) (grown : Grown) (text : List ℕ)
+    {M H : Type 0} (main : Format M) (format : Format H) (grown : Grown) (text : List ℕ)
     → grown.text ≡ text
     → Tells (line_names format (lines_of text)) (told grown.there)
-    → Tells [] (told grown.added)
-    → IsGrown format grown
-grown-fresh format grown text is there added = record {
+    → grown.place ≡ 0
+    → IsGrown main format [] grown
+grown-fresh main format grown text is there placed = record {
   names = λ name.
       ap (λ text. has_named format name (records_of format (lines_of text))) is
       ∙ sym (ap is_some (there name) ∙ told-has format name (lines_of text))
-      ∙ (rw (added name) (or-false (is_some (told grown.there name))));
-  few = λ name. rw (added name) tt;
+      ∙ sym (or-false (is_some (told grown.there name)));
+  counted = placed;
+}
+
+-- nor to one that knows the name of the main record
+pub grown-known :
+    {M H : Type 0} (main : Format M) (format : Format H) (before : List M) (m : M)
+    (old new : Grown)
+    → (is_some (told old.there (main.name m)) || has_named main (main.name m) before) ≡ true
+    → IsGrown main format before old
+    → new.text ≡ old.text
+    → new.there ≡ old.there
+    → new.place ≡ old.place + 1
+    → IsGrown main format (before ++ m ∷ []) new
+grown-known main format before m old new known grown is there placed = record {
+  names = λ other.
+      ap (λ text. has_named format other (records_of format (lines_of text))) is
+      ∙ grown.names other
+      ∙ told-same (is_some (told old.there other)) (bytes_eq (main.name m) other) m
+      (find_named main other before)
+      (λ same. subst (λ name. (is_some (told old.there name) || has_named main name before) ≡ true)
+      ((bytes_eq-Decides (main.name m) other).0 same) known)
+      ∙ ap (λ found. is_some (told old.there other) || is_some found)
+      (sym (find-append (is_named main other) before (m ∷ [])))
+      ∙ ap (λ there. is_some (told there other) || has_named main other (before ++ m ∷ []))
+      (sym there);
+  counted = placed ∙ omega (arith, grown.counted, length-append before (m ∷ []));
 }

@@ -53,3 +53,15 @@ module _ {R : Type 0} (format : Format R) where
   records-few [] = omega arith
   records-few (line ∷ rest) =
       cons-few (format.read line.text) (records_of format rest) rest line (records-few rest)
+
+  -- those of all lines are those up to a line, its own and those behind
+  pub records-around :
+      (all left rest : List Line) (line : Line) (taken : HaveTaken all left)
+      → left ≡ line ∷ rest
+      → records_of format all
+      ≡ records_of format taken.done
+      ++ cons_option (format.read line.text) (records_of format rest)
+  records-around all left rest line taken next =
+      ap (records_of format)
+      (sym taken.joined ∙ ap (λ left. taken.done ++ left) next)
+      ∙ filter_map-append (λ line. format.read line.text) taken.done (line ∷ rest)

@@ -1,11 +1,11 @@
 -- What pwconv and grpconv make of the table of hashes (pwconv(8)).
-use Rattle.std.specs.Prelude.{◌≡◌, ◌||◌, ℕ, List, [], ◌∷◌, bytes_eq, is_some, map, None, Some, if◌then◌else◌}
+use Rattle.std.specs.Prelude.{◌≡◌, ◌||◌, ℕ, List, [], ◌∷◌, bytes_eq, is_some, length, map, None, Some, if◌then◌else◌}
 use Rattle.acct_text.specs.Lines.{lines_of}
 use Rattle.account_model.specs.Conversion.{Accounts, gathered}
 use Rattle.account_model.specs.Edits.{AddMissing, Become, Edit}
 use Rattle.account_model.specs.Format.{Format, has_named, records_of}
 use Rattle.account_model.specs.Hashes.{elsewhere}
-use Rattle.acct_tables.specs.NameIndex.{TellsAtMost, told}
+use Rattle.acct_tables.specs.NameIndex.{told}
 use Rattle.check_reports.specs.declared.making.Grown.{Grown}
 use Rattle.check_reports.specs.declared.secrets.Secrets.{Secrets}
 use Rattle.check_reports.specs.Secrets.{found_text}
@@ -39,8 +39,9 @@ pub record IsMaking {Self M H : Type 0} (main : Format M) (format : Format H)
   pub named : (making : Self) (m : M) → format.name (make making m) ≡ main.name m
   pub no_blank : format.read [] ≡ None
 
--- the names that are told are those of the records, and each new one is told once
-pub record IsGrown {H : Type 0} (format : Format H) (grown : Grown) : Type 0 where
+-- behind these main records the names are those that stood there, and theirs
+pub record IsGrown {M H : Type 0} (main : Format M) (format : Format H) (before : List M)
+    (grown : Grown) : Type 0 where
   pub names : (name : List ℕ) → has_named format name (records_of format (lines_of grown.text))
-      ≡ (is_some (told grown.there name) || is_some (told grown.added name))
-  pub few : TellsAtMost 1 (told grown.added)
+      ≡ (is_some (told grown.there name) || has_named main name before)
+  pub counted : grown.place ≡ length before

@@ -1,6 +1,5 @@
 -- What opens the accounts of a table, and how that is kept by their names (passwd(5), shadow(5), group(5), gshadow(5)).
-use Rattle.std.specs.Prelude.{◌≡◌, ℕ, List, map, filter_map, Option, Some, None, option_map, slice_get}
-use Rattle.acct_text.specs.Lines.{Line}
+use Rattle.std.specs.Prelude.{◌≡◌, ℕ, List, map, Option, Some, None, slice_get}
 use Rattle.account_model.specs.Format.{Format}
 use Rattle.check_reports.specs.Sorted.{IsOrderOf, kept_place}
 use Rattle.check_reports.specs.declared.secrets.Secrets.{Secrets}
@@ -9,14 +8,6 @@ use Rattle.check_reports.specs.declared.secrets.Secrets.{Secrets}
 pub record IsSecret {R : Type 0} (secret : R → List ℕ) (with_secret : List ℕ → R → R) : Type 0 where
   pub with : (text : List ℕ) (r : R) → secret (with_secret text r) ≡ text
   pub own : (r : R) → with_secret (secret r) r ≡ r
-
--- the text of a line's record
-abbrev pub secret_text : {R : Type 0} → Format R → (R → List ℕ) → Line → Option (List ℕ)
-secret_text format secret line = option_map secret (format.read line.text)
-
--- those of all records
-abbrev pub secret_texts : {R : Type 0} → Format R → (R → List ℕ) → List Line → List (List ℕ)
-secret_texts format secret lines = filter_map (secret_text format secret) lines
 
 -- the texts that are kept
 abbrev pub kept_texts : Secrets → List (List ℕ)

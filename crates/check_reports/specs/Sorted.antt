@@ -1,7 +1,7 @@
 -- The text of a record with its key as account_model has it: one of the program stands for one of
 -- these; where names stand among the records of a table; and what it is to sort a table and that of
 -- its hashes (pwck(8), grpck(8), `-s`).
-use Rattle.std.specs.Prelude.{◌≡◌, ℕ, List, [], ◌∷◌, Some, None, length, map, option_map, unwrap_or}
+use Rattle.std.specs.Prelude.{◌≡◌, ◌+◌, ◌&&◌, ℕ, true, not, List, [], ◌∷◌, Some, None, length, map, option_map, unwrap_or}
 use Rattle.std.specs.List.{position_or_len}
 use Rattle.acct_text.specs.declared.Tab.{Tab}
 use Rattle.acct_text.specs.declared.files.Files.{Files}
@@ -12,7 +12,7 @@ use Rattle.account_model.specs.Edits as model
 use Rattle.account_model.specs.Edits.{Arrange}
 use Rattle.account_model.specs.Tables.{Script, files_after, table_after, table_records}
 use Rattle.account_model.specs.Action.{multiple_entries}
-use Rattle.acct_tables.specs.NameIndex.{Tells, told}
+use Rattle.acct_tables.specs.NameIndex.{IsNoted, Tells, TellsAtMost, are_several, told}
 use Rattle.check_reports.specs.declared.sorting.ByPlace.{ByPlace}
 use Rattle.check_reports.specs.declared.sorting.Keyed.{Keyed}
 
@@ -30,6 +30,14 @@ pub record IsOrderOf {R : Type 0} (format : Format R) (records : List R) (kept :
     : Type 0 where
   pub first : Tells (map (λ r. Some (format.name r)) records) (told kept.names)
   pub counted : kept.count ≡ length records
+  -- where the names are said to differ, each has one record
+  pub differ : kept.differ ≡ true → TellsAtMost 1 (told kept.names)
+
+-- one more record of the name has its place behind the others
+pub record IsPlaced (name : List ℕ) (old new : ByPlace) : Type 0 where
+  pub noted : IsNoted name old.count (told old.names) (told new.names)
+  pub counted : new.count ≡ old.count + 1
+  pub differ : new.differ ≡ (old.differ && not (are_several (told new.names name)))
 
 -- the place of the first of the records that has a record's name, or how many they are
 abbrev pub place_in : {M R : Type 0} → Format M → List M → Format R → R → ℕ

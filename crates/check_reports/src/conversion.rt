@@ -1,6 +1,6 @@
 // pwunconv and grpunconv (pwconv(8)): the hashes of users move from shadow to passwd, and those of groups
 // from gshadow to group.
-ghost use Rattle.std.specs.Prelude.{◌≡◌, ◌∷◌, [], IfOk, None, is_some};
+ghost use Rattle.std.specs.Prelude.{◌≡◌, ◌∷◌, [], IfOk, None, is_some, option_map};
 ghost use Rattle.account_model.specs.Action.{changes, multiple_entries};
 ghost use Rattle.account_model.specs.Conversion.{emptied, grpunconv, pwunconv, shown};
 ghost use Rattle.account_model.specs.Edits.{Become, first_multiple};
@@ -14,12 +14,13 @@ ghost use Rattle.check_reports.specs.Decided.{DecidesBy};
 ghost use Rattle.check_reports.specs.Sorted.{IsOrderOf};
 
 use crate::decision::{changed, push_sorted};
-use crate::line_changes::{LineChange, changed_text, first_met};
-use crate::secrets::{SecretRecord, Secrets};
+use crate::line_changes::{LineChange, first_met, walk};
+use crate::printing::{PrintedLine, differs, push_text};
+use crate::secrets::{AccountLine, Secrets};
 use crate::sorting::ByPlace;
 use account_model::{GroupRecord, GshadowRecord, PasswdRecord, Refusal, ShadowRecord, Tool};
-use acct_lines::TableRecord;
-use acct_tables::{is_record, name_of, read_record};
+use acct_lines::{GroupLine, GshadowLine, PasswdLine, ShadowLine, TableRecord};
+use acct_tables::FileLine;
 use acct_text::{Bytes, Files, NewTables, Tab};
 use std::alloc::{AllocError, Global};
 use tool_answers::{Decision, refuse};
@@ -37,7 +38,7 @@ pub fn pwunconv(alloc: Global, tool: Tool, files: &Files) -> Result<Decision, Al
         main_tab: Tab::Passwd,
         hashes_tab: Tab::Shadow,
     };
-    shown::<PasswdRecord, ShadowRecord>(alloc, tool, &pair)
+    shown::<PasswdRecord, PasswdLine, ShadowRecord, ShadowLine>(alloc, tool, &pair)
 }
 
 /// Moves the hashes of gshadow to group, and empties gshadow.
@@ -53,7 +54,7 @@ pub fn grpunconv(alloc: Global, tool: Tool, files: &Files) -> Result<Decision, A
         main_tab: Tab::Group,
         hashes_tab: Tab::Gshadow,
     };
-    shown::<GroupRecord, GshadowRecord>(alloc, tool, &pair)
+    shown::<GroupRecord, GroupLine, GshadowRecord, GshadowLine>(alloc, tool, &pair)
 }
 
 /// A table and that of its hashes, with their names.
@@ -66,43 +67,53 @@ pub(crate) struct Pair<'f> {
 }
 
 // Each record of the main table gets its hash as field, and all records of hashes go.
-fn shown<M: SecretRecord + Drop, H: SecretRecord + Drop>(
+fn shown<'f, M: TableRecord, P: PrintedLine<'f, M>, H: TableRecord, L: AccountLine<'f, H>>(
     alloc: Global,
     tool: Tool,
-    pair: &Pair<'_>,
+    pair: &Pair<'f>,
 ) -> Result<Decision, AllocError>
     ensures { IfOk result (λ decision. (files : Files) (script : Script)
         → Converts M.format H.format
-        (shown (accounts_of M.format H.format M.secret M.with_secret H.secret)
+        (shown (accounts_of M.format H.format P.secret P.with_secret L.secret)
         (table_records H.format pair.now.hashes.now)) emptied pair.now script files
         → DecidesBy tool (changes [] script) files decision) }
 {
-    let secrets = Secrets::of::<H>(alloc, pair.hashes)?;
-    let order = ByPlace::of::<M>(alloc, pair.main)?;
-    let showing = Showing { hashes: &secrets };
-    let met = multiple::<M, H, Showing, Emptying>(
+    let hashes = walk::<H, L, Emptying>(alloc, pair.hashes, &Emptying)?;
+    let showing = Showing {
+        hashes: &hashes.secrets,
+    };
+    let main = walk::<M, P, Showing>(alloc, pair.main, &showing)?;
+    let met = multiple::<M, P, H, L, Showing, Emptying>(
         alloc,
         pair,
-        &order,
+        &main.secrets.order,
         &showing,
-        &secrets.order,
+        &hashes.secrets.order,
         &Emptying,
     )?;
     if let Some(refusal) = met {
         return refuse(alloc, tool, refusal);
     }
-    let main = changed_file::<M, Showing>(alloc, pair.main, &showing)?;
-    let hashes = changed_file::<H, Emptying>(alloc, pair.hashes, &Emptying)?;
-    decided(alloc, pair, main, hashes)
+    let new_main = file_with(pair.main, main.into_text());
+    let new_hashes = file_with(pair.hashes, hashes.into_text());
+    decided(alloc, pair, new_main, new_hashes)
 }
 
-//// The first name that the changes touch and of which its table has several.
-pub(crate) fn multiple<M: TableRecord, H: TableRecord, C: LineChange<M>, D: LineChange<H>>(
+/// The first name that the changes touch and of which its table has several.
+pub(crate) fn multiple<
+    'f,
+    M: TableRecord,
+    P: AccountLine<'f, M>,
+    H: TableRecord,
+    L: AccountLine<'f, H>,
+    C: LineChange<'f, M, P>,
+    D: LineChange<'f, H, L>,
+>(
     alloc: Global,
-    pair: &Pair<'_>,
-    main_order: &ByPlace,
+    pair: &Pair<'f>,
+    main_order: &ByPlace<'_>,
     main_change: &C,
-    order: &ByPlace,
+    order: &ByPlace<'_>,
     change: &D,
 ) -> Result<Option<Refusal>, AllocError>
     requires main { IsOrderOf M.format (table_records M.format pair.now.main.now) main_order.now }
@@ -110,20 +121,20 @@ pub(crate) fn multiple<M: TableRecord, H: TableRecord, C: LineChange<M>, D: Line
     ensures { IfOk result (λ refusal. refusal ≡ pair_multiple M.format H.format
         (Become (C.change main_change.now) ∷ []) (Become (D.change change.now) ∷ []) pair.now) }
 {
-    if let Some(name) = first_in_file::<M, C>(alloc, pair.main, main_order, main_change)? {
+    if let Some(name) = first_in_file::<M, P, C>(alloc, pair.main, main_order, main_change)? {
         return Ok(Some(Refusal::Multiple(pair.main_tab, name)));
     }
-    match first_in_file::<H, D>(alloc, pair.hashes, order, change)? {
+    match first_in_file::<H, L, D>(alloc, pair.hashes, order, change)? {
         Some(name) => Ok(Some(Refusal::Multiple(pair.hashes_tab, name))),
         None => Ok(None),
     }
 }
 
 // The name of the first record of a file that is touched and whose name has several.
-fn first_in_file<R: TableRecord, C: LineChange<R>>(
+fn first_in_file<'f, R: TableRecord, L: AccountLine<'f, R>, C: LineChange<'f, R, L>>(
     alloc: Global,
-    file: &Option<Bytes>,
-    order: &ByPlace,
+    file: &'f Option<Bytes>,
+    order: &ByPlace<'_>,
     change: &C,
 ) -> Result<Option<Bytes>, AllocError>
     requires { IsOrderOf R.format (table_records R.format file.now) order.now }
@@ -131,23 +142,18 @@ fn first_in_file<R: TableRecord, C: LineChange<R>>(
         (Become (C.change change.now) ∷ []) (table_records R.format file.now)) }
 {
     match file {
-        Some(text) => first_met::<R, C>(alloc, text.as_slice(), order, change),
+        Some(text) => first_met::<R, L, C>(alloc, text.as_slice(), order, change),
         None => Ok(None),
     }
 }
 
-/// The bytes of a file with what becomes of its lines; an absent one stays absent.
-pub(crate) fn changed_file<R: TableRecord, C: LineChange<R>>(
-    alloc: Global,
-    file: &Option<Bytes>,
-    change: &C,
-) -> Result<Option<Bytes>, AllocError>
-    ensures { IfOk result (λ new.
-        new ≡ table_after R.format (Become (C.change change.now) ∷ []) file.now) }
+/// The new bytes of a file; an absent one stays absent.
+pub(crate) fn file_with(file: &Option<Bytes>, text: Bytes) -> Option<Bytes>
+    ensures { result ≡ option_map (λ _. text) file.now }
 {
     match file {
-        Some(text) => Ok(Some(changed_text::<R, C>(alloc, text.as_slice(), change)?)),
-        None => Ok(None),
+        Some(_) => Some(text),
+        None => None,
     }
 }
 
@@ -181,50 +187,54 @@ pub(crate) struct Showing<'h, 'a> {
     hashes: &'h Secrets<'a>,
 }
 
-impl<'h, 'a, M: SecretRecord + Drop> LineChange<M> for Showing<'h, 'a> {
+impl<'l, 'h, 'a, M: TableRecord, P: PrintedLine<'l, M>> LineChange<'l, M, P> for Showing<'h, 'a> {
     ghost use Rattle.std.specs.Prelude.{[], ◌∷◌};
     ghost use Rattle.check_reports.specs.Secrets.{shown_by};
 
-    ghost change = { λ showing m.
-        shown_by M.TableRecord.format M.with_secret showing.hashes.now m ∷ [] };
+    ghost change = { λ showing m. shown_by M.format P.with_secret showing.hashes.now m ∷ [] };
 
-    fn touches(&self, line: &[u8]) -> bool {
-        let Some(name) = name_of::<M>(line) else {
-            return false;
-        };
-        let Some(field) = M::secret_in(line) else {
-            return false;
-        };
-        match self.hashes.get(name) {
-            Some(hash) => field != hash,
+    fn touches(&self, account: &P) -> bool {
+        match self.hashes.get_near(account.name(), 0) {
+            Some(hash) => differs::<M, P>(account, hash),
             None => false,
         }
     }
 
-    fn new_text(&self, alloc: Global, line: &[u8]) -> Result<Option<Bytes>, AllocError> {
-        let Some(mut record) = read_record::<M>(alloc, line)? else {
-            return Ok(None);
-        };
-        if let Some(hash) = self.hashes.get(record.name()) {
-            record.set_secret(Bytes::of(alloc, hash)?);
+    fn push(
+        &self,
+        alloc: Global,
+        made: &mut Bytes,
+        account: &P,
+        line: &FileLine<'l>,
+        place: usize,
+    ) -> Result<(), AllocError> {
+        match self.hashes.get_near(account.name(), place) {
+            Some(hash) => push_text::<M, P>(alloc, made, account, line, hash),
+            None => line.push_to(made),
         }
-        Ok(Some(record.print(alloc)?))
     }
 }
 
 /// All records go.
 pub(crate) struct Emptying;
 
-impl<H: TableRecord> LineChange<H> for Emptying {
+impl<'l, H: TableRecord, L: AccountLine<'l, H>> LineChange<'l, H, L> for Emptying {
     ghost use Rattle.std.specs.Prelude.{true, [], ◌∷◌, if◌then◌else◌};
 
     ghost change = { λ _ h. if true then [] else h ∷ [] };
 
-    fn touches(&self, line: &[u8]) -> bool {
-        is_record::<H>(line)
+    fn touches(&self, _account: &L) -> bool {
+        true
     }
 
-    fn new_text(&self, _alloc: Global, _line: &[u8]) -> Result<Option<Bytes>, AllocError> {
-        Ok(None)
+    fn push(
+        &self,
+        _alloc: Global,
+        _made: &mut Bytes,
+        _account: &L,
+        _line: &FileLine<'l>,
+        _place: usize,
+    ) -> Result<(), AllocError> {
+        Ok(())
     }
 }

@@ -1,72 +1,83 @@
 // What pwconv and grpconv make of records (pwconv(8)): fields become `x`, and records of hashes
 // take fields over, or go.
-ghost use Rattle.std.specs.Prelude.{◌≡◌, ℕ, List, [], ◌∷◌, not, Some};
+ghost use Rattle.std.specs.Prelude.{◌≡◌, ◌++◌, ℕ, List, [], ◌∷◌, not, Some, OnOk};
 ghost use Rattle.account_model.specs.Records.{shadow_format};
 ghost use Rattle.acct_lines.specs.Shown.{shadow_shown};
-ghost use Rattle.check_reports.specs.LineChanges.{touches_line};
 
 use crate::line_changes::LineChange;
-use crate::secrets::{SecretRecord, Secrets};
+use crate::printing::{PrintedLine, differs, push_end, push_field, push_text, push_three_days};
+use crate::secrets::{AccountLine, Secrets};
 use account_model::ShadowRecord;
 use acct_lines::{ShadowLine, TableRecord};
-use acct_tables::{name_of, read_record};
+use acct_tables::FileLine;
 use acct_text::Bytes;
 use std::alloc::{AllocError, Global};
 
 /// Each field becomes `x`.
 pub(crate) struct Hiding;
 
-impl<M: SecretRecord + Drop> LineChange<M> for Hiding {
+impl<'l, M: TableRecord, P: PrintedLine<'l, M>> LineChange<'l, M, P> for Hiding {
     ghost use Rattle.std.specs.Prelude.{[], ◌∷◌};
     ghost use Rattle.account_model.specs.Hashes.{elsewhere};
 
-    ghost change = { λ _ m. M.with_secret elsewhere m ∷ [] };
+    ghost change = { λ _ m. P.with_secret elsewhere m ∷ [] };
 
-    fn touches(&self, line: &[u8]) -> bool {
-        match M::secret_in(line) {
-            Some(field) => field != b"x".as_slice(),
-            None => false,
-        }
+    fn touches(&self, account: &P) -> bool {
+        differs::<M, P>(account, b"x")
     }
 
-    fn new_text(&self, alloc: Global, line: &[u8]) -> Result<Option<Bytes>, AllocError> {
-        let Some(mut record) = read_record::<M>(alloc, line)? else {
-            return Ok(None);
-        };
-        record.set_secret(Bytes::of(alloc, b"x")?);
-        Ok(Some(record.print(alloc)?))
+    fn push(
+        &self,
+        alloc: Global,
+        made: &mut Bytes,
+        account: &P,
+        line: &FileLine<'l>,
+        _place: usize,
+    ) -> Result<(), AllocError> {
+        push_text::<M, P>(alloc, made, account, line, b"x")
     }
 }
 
 /// How a record of hashes takes a field over.
-pub(crate) trait Taking<H: TableRecord> {
+pub(crate) trait Taking<'a, H: TableRecord, L: AccountLine<'a, H>> {
     // the record that did
     ghost take: { Self → List ℕ → H → H };
 
-    /// Whether the record that the line is becomes another one by this field.
-    fn differs(&self, line: &[u8], field: &[u8]) -> bool
-        ensures { result ≡ touches_line H.format (λ h. take self.now field.now h ∷ []) line.now };
+    /// Whether the record becomes another one by this field.
+    fn differs(&self, account: &L, field: &[u8]) -> bool
+        ensures { result ≡ not (H.format.same (L.shown account.now)
+            (take self.now field.now (L.shown account.now))) };
 
-    /// Takes the field over.
-    fn take(&self, record: &mut H, field: Bytes)
-        ensures { record.new ≡ take self.now field record.old };
+    /// Adds the canonical line of the record that took it over, without a newline.
+    fn push_taken(
+        &self,
+        alloc: Global,
+        made: &mut Bytes,
+        account: &L,
+        field: &[u8],
+    ) -> Result<(), AllocError>
+        ensures { OnOk result (made.new ≡ made.old
+            ++ H.format.print (take self.now field.now (L.shown account.now))) };
 }
 
 /// The field alone is taken over, as for groups.
 pub(crate) struct FieldTaking;
 
-impl<H: SecretRecord> Taking<H> for FieldTaking {
-    ghost take = { λ _ field r. H.with_secret field r };
+impl<'l, H: TableRecord, L: PrintedLine<'l, H>> Taking<'l, H, L> for FieldTaking {
+    ghost take = { λ _ field r. L.with_secret field r };
 
-    fn differs(&self, line: &[u8], field: &[u8]) -> bool {
-        match H::secret_in(line) {
-            Some(hash) => hash != field,
-            None => false,
-        }
+    fn differs(&self, account: &L, field: &[u8]) -> bool {
+        differs::<H, L>(account, field)
     }
 
-    fn take(&self, record: &mut H, field: Bytes) {
-        record.set_secret(field);
+    fn push_taken(
+        &self,
+        alloc: Global,
+        made: &mut Bytes,
+        account: &L,
+        field: &[u8],
+    ) -> Result<(), AllocError> {
+        account.push_with(alloc, made, field)
     }
 }
 
@@ -79,21 +90,27 @@ pub(crate) struct UserTaking {
     pub(crate) warning: Option<u32>,
 }
 
-impl Taking<ShadowRecord> for UserTaking {
+impl<'l> Taking<'l, ShadowRecord, ShadowLine<'l>> for UserTaking {
     ghost use Rattle.std.specs.Prelude.{Some};
 
     ghost take = { λ taking field r. record r { hash = field; last_change = Some taking.day } };
 
-    fn differs(&self, line: &[u8], field: &[u8]) -> bool {
-        match ShadowLine::read(line) {
-            Ok(user) => user_differs(&user, field, self.day),
-            Err(_) => false,
-        }
+    fn differs(&self, account: &ShadowLine<'l>, field: &[u8]) -> bool {
+        user_differs(account, field, self.day)
     }
 
-    fn take(&self, record: &mut ShadowRecord, field: Bytes) {
-        record.hash = field;
-        record.last_change = Some(self.day);
+    fn push_taken(
+        &self,
+        _alloc: Global,
+        made: &mut Bytes,
+        user: &ShadowLine<'l>,
+        field: &[u8],
+    ) -> Result<(), AllocError> {
+        made.push(user.name)?;
+        push_field(made, field)?;
+        push_three_days(made, Some(self.day), user.minimum, user.maximum)?;
+        push_three_days(made, user.warning, user.inactive, user.expiration)?;
+        push_field(made, user.rest)
     }
 }
 
@@ -114,30 +131,35 @@ pub(crate) struct Gathering<'m, 'a, T> {
     pub(crate) taking: &'m T,
 }
 
-impl<'m, 'a, H: TableRecord + Drop, T: Taking<H>> LineChange<H> for Gathering<'m, 'a, T> {
+impl<'l, 'm, 'a, H: TableRecord, L: AccountLine<'l, H>, T: Taking<'l, H, L>> LineChange<'l, H, L>
+    for Gathering<'m, 'a, T> {
     ghost use Rattle.check_reports.specs.Gathered.{gathered_by};
 
     ghost change = { λ gathering h.
         gathered_by H.format gathering.fields.now (T.take gathering.taking.now) h };
 
-    fn touches(&self, line: &[u8]) -> bool {
-        let Some(name) = name_of::<H>(line) else {
-            return false;
-        };
-        match self.fields.get(name) {
-            Some(field) => field != b"x".as_slice() && self.taking.differs(line, field),
+    fn touches(&self, account: &L) -> bool {
+        match self.fields.get_near(account.name(), 0) {
+            Some(field) => field != b"x".as_slice() && self.taking.differs(account, field),
             None => true,
         }
     }
 
-    fn new_text(&self, alloc: Global, line: &[u8]) -> Result<Option<Bytes>, AllocError> {
-        let Some(mut record) = read_record::<H>(alloc, line)? else {
-            return Ok(None);
+    fn push(
+        &self,
+        alloc: Global,
+        made: &mut Bytes,
+        account: &L,
+        line: &FileLine<'l>,
+        place: usize,
+    ) -> Result<(), AllocError> {
+        let Some(field) = self.fields.get_near(account.name(), place) else {
+            return Ok(());
         };
-        let Some(field) = self.fields.get(record.name()) else {
-            return Ok(None);
-        };
-        self.taking.take(&mut record, Bytes::of(alloc, field)?);
-        Ok(Some(record.print(alloc)?))
+        if field == b"x".as_slice() || !self.taking.differs(account, field) {
+            return line.push_to(made);
+        }
+        self.taking.push_taken(alloc, made, account, field)?;
+        push_end(made, line)
     }
 }

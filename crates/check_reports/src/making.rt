@@ -1,17 +1,23 @@
-// The new records of hashes that pwconv and grpconv make for names without one (pwconv(8)).
-ghost use Rattle.std.specs.Prelude.{◌≡◌, IfOk, OnOk, option_to_list};
-ghost use Rattle.std.specs.List.{AllByRecursion};
+// The records of hashes that are made of main ones whose names have none (pwconv(8)).
+ghost use Rattle.std.specs.Prelude.{◌≡◌, ◌+◌, ◌^◌, ◌<◌, ◌++◌, ◌∷◌, List, option_to_list, IfOk, OnOk};
+ghost use Rattle.std.specs.List.{AllByRecursion, cons_option};
 ghost use Rattle.acct_text.specs.Lines.{file_bytes, lines_of};
-ghost use Rattle.account_model.specs.Edits.{edited_by};
+ghost use Rattle.account_model.specs.Edits.{edited_by, with_line};
+ghost use Rattle.account_model.specs.Format.{has_named, records_of};
 ghost use Rattle.account_model.specs.RecordEdits.{IsWrittenEdit};
 ghost use Rattle.account_model.specs.Tables.{table_records};
+ghost use Rattle.acct_tables.specs.SeenLines.{missing_end};
 ghost use Rattle.check_reports.specs.Gathered.{IsGrown, IsMaking, made_edits};
+ghost use Rattle.check_reports.specs.Sorted.{IsOrderOf};
 
 use crate::gathering::{FieldTaking, UserTaking};
+use crate::printing::{push_days, push_field, push_list, push_three_days};
+use crate::secrets::AccountLine;
+use crate::sorting::ByPlace;
 use account_model::{GroupRecord, GshadowRecord, PasswdRecord, ShadowRecord};
-use acct_lines::TableRecord;
-use acct_tables::{Lines, NameIndex, append_line, name_of, read_record};
-use acct_text::{Bytes, Names};
+use acct_lines::{GroupLine, PasswdLine, TableRecord};
+use acct_tables::{Lines, NameIndex};
+use acct_text::Bytes;
 use std::alloc::{AllocError, Global};
 use table::text_of;
 
@@ -20,12 +26,16 @@ pub(crate) trait Making<M: TableRecord, H: TableRecord> {
     // the record that is made
     ghost make: { Self → M → H };
 
-    /// Makes it.
-    fn make(&self, alloc: Global, main: &M) -> Result<H, AllocError>
-        ensures { IfOk result (λ made. made ≡ make self.now main.now) };
-
     // it has the name of the main one
     ghost is_making: { IsMaking M.format H.format make };
+}
+
+/// How the line of one is.
+pub(crate) trait MadeLine<'a, M: TableRecord, P: AccountLine<'a, M>, H: TableRecord>: Making<M, H> {
+    /// Adds the canonical line of the record that is made, without a newline.
+    fn push_made(&self, alloc: Global, text: &mut Bytes, main: &P) -> Result<(), AllocError>
+        ensures { OnOk result (text.new ≡ text.old
+            ++ H.format.print (Self.make self.now (P.shown main.now))) };
 }
 
 impl Making<PasswdRecord, ShadowRecord> for UserTaking {
@@ -39,21 +49,22 @@ impl Making<PasswdRecord, ShadowRecord> for UserTaking {
       warning = taking.warning;
     } };
 
-    fn make(&self, alloc: Global, user: &PasswdRecord) -> Result<ShadowRecord, AllocError> {
-        Ok(ShadowRecord {
-            name: user.name.copy()?,
-            hash: user.password.copy()?,
-            last_change: Some(self.day),
-            minimum: self.minimum,
-            maximum: self.maximum,
-            warning: self.warning,
-            inactive: None,
-            expiration: None,
-            rest: Bytes::new(alloc),
-        })
-    }
-
     ghost is_making = { record { named = λ taking user. refl; no_blank = refl } };
+}
+
+impl<'a> MadeLine<'a, PasswdRecord, PasswdLine<'a>, ShadowRecord> for UserTaking {
+    fn push_made(
+        &self,
+        _alloc: Global,
+        text: &mut Bytes,
+        user: &PasswdLine<'a>,
+    ) -> Result<(), AllocError> {
+        text.push(user.name)?;
+        push_field(text, user.password)?;
+        push_three_days(text, Some(self.day), self.minimum, self.maximum)?;
+        push_days(text, self.warning)?;
+        text.push(b":::")
+    }
 }
 
 impl Making<GroupRecord, GshadowRecord> for FieldTaking {
@@ -62,36 +73,49 @@ impl Making<GroupRecord, GshadowRecord> for FieldTaking {
 
     ghost make = { λ _ group. gshadow_of group };
 
-    fn make(&self, alloc: Global, group: &GroupRecord) -> Result<GshadowRecord, AllocError> {
-        Ok(GshadowRecord {
-            name: group.name.copy()?,
-            password: group.password.copy()?,
-            administrators: Names::new(alloc),
-            members: group.members.copy()?,
-        })
-    }
-
     ghost is_making = { record { named = λ taking group. refl; no_blank = refl } };
 }
 
-// The bytes of a table with lines that are appended, and the names of its records.
+impl<'a> MadeLine<'a, GroupRecord, GroupLine<'a>, GshadowRecord> for FieldTaking {
+    fn push_made(
+        &self,
+        alloc: Global,
+        text: &mut Bytes,
+        group: &GroupLine<'a>,
+    ) -> Result<(), AllocError> {
+        text.push(group.name)?;
+        push_field(text, group.password)?;
+        text.push(b":")?;
+        push_list(alloc, text, group.members)
+    }
+}
+
+// The bytes of a table with lines that are appended.
 #[derive(Drop)]
 struct Grown<'a> {
     text: Bytes,
     // the names of the records that stood there
     there: NameIndex<'a>,
-    // those of the records that are new
-    added: NameIndex<'a>,
+    // how many main records were looked at
+    place: usize,
 }
 
-/// The text with a new record for each main record whose name it lacks.
-pub(crate) fn with_missing<'a, M: TableRecord + Drop, H: TableRecord + Drop, T: Making<M, H>>(
+/// The text with a new record for each main record whose name it lacks, by the order of main records.
+pub(crate) fn with_missing<
+    'a,
+    M: TableRecord,
+    P: AccountLine<'a, M>,
+    H: TableRecord,
+    T: MadeLine<'a, M, P, H>,
+>(
     alloc: Global,
     main: &'a Option<Bytes>,
-    text: &'a [u8],
+    order: &ByPlace<'_>,
+    text: &[u8],
     making: &T,
 ) -> Result<Bytes, AllocError>
-    requires { AllByRecursion (IsWrittenEdit H.format)
+    requires order { IsOrderOf M.format (table_records M.format main.now) order.now }
+    requires written { AllByRecursion (IsWrittenEdit H.format)
         (made_edits (T.make making.now) (table_records M.format main.now)) }
     ensures { IfOk result (λ bytes. bytes ≡ file_bytes (edited_by H.format
         (made_edits (T.make making.now) (table_records M.format main.now)) (lines_of text.now))) }
@@ -99,42 +123,92 @@ pub(crate) fn with_missing<'a, M: TableRecord + Drop, H: TableRecord + Drop, T: 
     let mut grown = Grown {
         text: Bytes::of(alloc, text)?,
         there: NameIndex::of::<H>(alloc, text)?,
-        added: NameIndex::new(alloc),
+        place: 0,
     };
     let mut left = Lines::of(text_of(main));
     'lines: while let Some(line) = left.take() {
-        grow::<M, H, T>(alloc, &mut grown, line.text, making)?;
+        grow::<M, P, H, T>(alloc, &mut grown, order, line.text, making)?;
     }
     Ok(grown.text)
 }
 
 // Adds the record that is made of a line's, where no record has its name.
-fn grow<'a, M: TableRecord + Drop, H: TableRecord + Drop, T: Making<M, H>>(
+fn grow<'a, M: TableRecord, P: AccountLine<'a, M>, H: TableRecord, T: MadeLine<'a, M, P, H>>(
     alloc: Global,
-    grown: &mut Grown<'a>,
+    grown: &mut Grown<'_>,
+    order: &ByPlace<'_>,
     line: &'a [u8],
     making: &T,
 ) -> Result<(), AllocError>
-    requires grown { IsGrown H.format grown.old }
+    requires room { grown.old.place + 1 < 2 ^ 64 }
     requires written { AllByRecursion (IsWrittenEdit H.format)
         (made_edits (T.make making.now) (option_to_list (M.format.read line.now))) }
-    ensures lines { OnOk result (lines_of grown.new.text ≡ edited_by H.format
+    ensures lines { OnOk result ((before rest : List M)
+        → IsOrderOf M.format (before ++ cons_option (M.format.read line.now) rest) order.now
+        → IsGrown M.format H.format before grown.old
+        → lines_of grown.new.text ≡ edited_by H.format
         (made_edits (T.make making.now) (option_to_list (M.format.read line.now)))
         (lines_of grown.old.text)) }
-    ensures grown { OnOk result (IsGrown H.format grown.new) }
+    ensures grown { OnOk result ((before rest : List M)
+        → IsOrderOf M.format (before ++ cons_option (M.format.read line.now) rest) order.now
+        → IsGrown M.format H.format before grown.old
+        → IsGrown M.format H.format
+        (before ++ option_to_list (M.format.read line.now)) grown.new) }
 {
-    let Some(name) = name_of::<M>(line) else {
+    let Some(main) = P::account_in(line) else {
         return Ok(());
     };
-    if grown.there.has(name) || grown.added.has(name) {
+    let is_known = is_known::<M, P, H>(grown, order, &main);
+    grown.place += 1;
+    if is_known {
         return Ok(());
     }
-    let Some(main) = read_record::<M>(alloc, line)? else {
+    append_made::<M, P, H, T>(alloc, &mut grown.text, &main, making)
+}
+
+// Whether a record has the name of the next main record.
+fn is_known<'a, M: TableRecord, P: AccountLine<'a, M>, H: TableRecord>(
+    grown: &Grown<'_>,
+    order: &ByPlace<'_>,
+    main: &P,
+) -> bool
+    ensures { (before rest : List M)
+        → IsOrderOf M.format (before ++ P.shown main.now ∷ rest) order.now
+        → IsGrown M.format H.format before grown.now
+        → result ≡ has_named H.format (M.format.name (P.shown main.now))
+        (records_of H.format (lines_of grown.now.text)) }
+{
+    let name = main.name();
+    if grown.there.has_near(name, grown.place) {
+        return true;
+    }
+    order.has_before(name, grown.place)
+}
+
+// Adds the line of the record that is made of a main one, behind the last.
+fn append_made<'a, M: TableRecord, P: AccountLine<'a, M>, H: TableRecord, T: MadeLine<'a, M, P, H>>(
+    alloc: Global,
+    text: &mut Bytes,
+    main: &P,
+    making: &T,
+) -> Result<(), AllocError>
+    ensures { OnOk result (text.new ≡ file_bytes (with_line
+        (H.format.print (T.make making.now (P.shown main.now))) (lines_of text.old))) }
+{
+    push_missing_end(text)?;
+    making.push_made(alloc, text, main)?;
+    text.push(b"\n")
+}
+
+// Adds the newline that the last line lacks, if it does.
+fn push_missing_end(text: &mut Bytes) -> Result<(), AllocError>
+    ensures { OnOk result (text.new ≡ text.old ++ missing_end text.old) }
+{
+    let Some(last) = text.as_slice().last() else {
         return Ok(());
     };
-    let made = making.make(alloc, &main)?;
-    let text = made.print(alloc)?;
-    append_line(alloc, &mut grown.text, text.as_slice())?;
-    grown.added.add(name, 1)?;
-    Ok(())
+    if *last == b'\n' {
+        return Ok(());
+    }
+    text.push(b"\n")
 }

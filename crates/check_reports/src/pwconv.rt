@@ -14,15 +14,15 @@ ghost use Rattle.check_reports.specs.Converted.{Converts, accounts_of};
 ghost use Rattle.check_reports.specs.Decided.{DecidesBy};
 ghost use Rattle.check_reports.specs.Gathered.{gathered_edits, taken_edits};
 
-use crate::conversion::{Pair, changed_file, decided, multiple};
+use crate::conversion::{Pair, decided, file_with, multiple};
 use crate::gathering::{FieldTaking, Gathering, Hiding, Taking, UserTaking};
-use crate::line_changes::changed_text;
-use crate::making::{Making, with_missing};
-use crate::secrets::{SecretRecord, Secrets};
-use crate::sorting::ByPlace;
+use crate::line_changes::walk;
+use crate::making::{MadeLine, with_missing};
+use crate::printing::PrintedLine;
+use crate::secrets::AccountLine;
 use account_model::{GroupRecord, GshadowRecord, Key, PasswdRecord, Refusal, ShadowRecord, Tool};
-use acct_lines::TableRecord;
-use acct_text::{Bytes, Files, Tab};
+use acct_lines::{GroupLine, GshadowLine, PasswdLine, ShadowLine, TableRecord};
+use acct_text::{Files, Tab};
 use login_defs::Defs;
 use std::alloc::{AllocError, Global};
 use tool_answers::{Decision, refuse};
@@ -55,7 +55,9 @@ pub fn pwconv(
         maximum: defs.value(Key::PassMaxDays),
         warning: defs.value(Key::PassWarnAge),
     };
-    gathered::<PasswdRecord, ShadowRecord, UserTaking>(alloc, tool, &pair, &taking)
+    gathered::<PasswdRecord, PasswdLine, ShadowRecord, ShadowLine, UserTaking>(
+        alloc, tool, &pair, &taking,
+    )
 }
 
 /// Moves the hashes of group to gshadow.
@@ -71,69 +73,52 @@ pub fn grpconv(alloc: Global, tool: Tool, files: &Files) -> Result<Decision, All
         main_tab: Tab::Group,
         hashes_tab: Tab::Gshadow,
     };
-    gathered::<GroupRecord, GshadowRecord, FieldTaking>(alloc, tool, &pair, &FieldTaking)
+    gathered::<GroupRecord, GroupLine, GshadowRecord, GshadowLine, FieldTaking>(
+        alloc,
+        tool,
+        &pair,
+        &FieldTaking,
+    )
 }
 
 // Each field of the main table becomes `x`, and the records of hashes take them over.
-fn gathered<M: SecretRecord + Drop, H: SecretRecord + Drop, T: Taking<H> + Making<M, H>>(
-    alloc: Global,
-    tool: Tool,
-    pair: &Pair<'_>,
-    taking: &T,
-) -> Result<Decision, AllocError>
+fn gathered<
+    'f,
+    M: TableRecord,
+    P: PrintedLine<'f, M>,
+    H: TableRecord,
+    L: AccountLine<'f, H>,
+    T: Taking<'f, H, L> + MadeLine<'f, M, P, H>,
+>(alloc: Global, tool: Tool, pair: &Pair<'f>, taking: &T) -> Result<Decision, AllocError>
     requires { AllByRecursion (IsWrittenEdit H.format)
-        (taken_edits (accounts_of M.format H.format M.secret M.with_secret H.secret)
+        (taken_edits (accounts_of M.format H.format P.secret P.with_secret L.secret)
         (T.take taking.now) (T.make taking.now) (table_records M.format pair.now.main.now)) }
     ensures { IfOk result (λ decision. (files : Files) (script : Script)
         → Converts M.format H.format
-        (hidden (accounts_of M.format H.format M.secret M.with_secret H.secret))
-        (taken_edits (accounts_of M.format H.format M.secret M.with_secret H.secret)
+        (hidden (accounts_of M.format H.format P.secret P.with_secret L.secret))
+        (taken_edits (accounts_of M.format H.format P.secret P.with_secret L.secret)
         (T.take taking.now) (T.make taking.now) (table_records M.format pair.now.main.now))
         pair.now script files
         → DecidesBy tool (changes [] script) files decision) }
 {
-    let fields = Secrets::of::<M>(alloc, pair.main)?;
-    let order = ByPlace::of::<H>(alloc, pair.hashes)?;
-    let gathering = Gathering {
-        fields: &fields,
-        taking,
-    };
-    let met = multiple::<M, H, Hiding, Gathering<T>>(
+    let main = walk::<M, P, Hiding>(alloc, pair.main, &Hiding)?;
+    let fields = &main.secrets;
+    let gathering = Gathering { fields, taking };
+    let hashes = walk::<H, L, Gathering<T>>(alloc, pair.hashes, &gathering)?;
+    let met = multiple::<M, P, H, L, Hiding, Gathering<T>>(
         alloc,
         pair,
         &fields.order,
         &Hiding,
-        &order,
+        &hashes.secrets.order,
         &gathering,
     )?;
     if let Some(refusal) = met {
         return refuse(alloc, tool, refusal);
     }
-    let main = changed_file::<M, Hiding>(alloc, pair.main, &Hiding)?;
-    let hashes = gathered_file::<M, H, T>(alloc, pair, &gathering)?;
-    decided(alloc, pair, main, hashes)
-}
-
-// The bytes of the table of hashes, with what its records take over and with those that it lacked;
-// an absent one stays absent.
-fn gathered_file<M: TableRecord + Drop, H: TableRecord + Drop, T: Taking<H> + Making<M, H>>(
-    alloc: Global,
-    pair: &Pair<'_>,
-    gathering: &Gathering<'_, '_, T>,
-) -> Result<Option<Bytes>, AllocError>
-    requires { AllByRecursion (IsWrittenEdit H.format) (gathered_edits H.format
-        gathering.now.fields.now (T.take gathering.now.taking.now) (T.make gathering.now.taking.now)
-        (table_records M.format pair.now.main.now)) }
-    ensures { IfOk result (λ new. new ≡ table_after H.format (gathered_edits H.format
-        gathering.now.fields.now (T.take gathering.now.taking.now) (T.make gathering.now.taking.now)
-        (table_records M.format pair.now.main.now)) pair.now.hashes.now) }
-{
-    match pair.hashes {
-        Some(text) => {
-            let kept = changed_text::<H, Gathering<T>>(alloc, text.as_slice(), gathering)?;
-            let taking = gathering.taking;
-            Ok(Some(with_missing::<M, H, T>(alloc, pair.main, kept.as_slice(), taking)?))
-        }
-        None => Ok(None),
-    }
+    let kept = hashes.text.as_slice();
+    let grown = with_missing::<M, P, H, T>(alloc, pair.main, &fields.order, kept, taking)?;
+    let new_main = file_with(pair.main, main.into_text());
+    let new_hashes = file_with(pair.hashes, grown);
+    decided(alloc, pair, new_main, new_hashes)
 }

@@ -3,9 +3,9 @@ ghost use Rattle.std.specs.Prelude.{◌≡◌, ◌+◌, ◌^◌, ◌<◌, ◌≤
 ghost use Rattle.acct_text.specs.Lines.{Line, file_bytes, line_bytes, lines_of};
 ghost use Rattle.account_model.specs.Edits.{Arrange, edited, in_places, keyed_text, keyed_texts, sorted_by_key};
 ghost use Rattle.account_model.specs.Tables.{table_after, table_records};
-ghost use Rattle.acct_tables.specs.NameIndex.{are_several, told};
+ghost use Rattle.acct_tables.specs.NameIndex.{TellsAtMost, are_several, begins_before, told};
 ghost use Rattle.acct_tables.specs.SeenLines.{seen_line};
-ghost use Rattle.check_reports.specs.Sorted.{IsOrderOf, kept_place, place_in, seen_keyed};
+ghost use Rattle.check_reports.specs.Sorted.{IsOrderOf, IsPlaced, kept_place, place_in, seen_keyed};
 ghost use Rattle.std.specs.Option.{option_copied};
 
 use account_model::{GroupRecord, PasswdRecord};
@@ -58,9 +58,22 @@ pub(crate) struct ByPlace<'a> {
     names: NameIndex<'a>,
     // how many records the other table has
     count: usize,
+    // whether no two records have one name
+    differ: bool,
 }
 
 impl<'a> ByPlace<'a> {
+    /// The order of no records.
+    pub(crate) fn new<M: TableRecord>(alloc: Global) -> Self
+        ensures { IsOrderOf M.format [] result }
+    {
+        ByPlace {
+            names: NameIndex::new(alloc),
+            count: 0,
+            differ: true,
+        }
+    }
+
     /// The order of the records of a file; an absent one has none.
     pub(crate) fn of<M: TableRecord + Drop>(
         alloc: Global,
@@ -68,16 +81,40 @@ impl<'a> ByPlace<'a> {
     ) -> Result<Self, AllocError>
         ensures { IfOk result (IsOrderOf M.format (table_records M.format main.now)) }
     {
-        let mut names = NameIndex::new(alloc);
-        let mut count = 0usize;
+        let mut order = ByPlace::new::<M>(alloc);
         let mut left = Lines::of(text_of(main));
         'lines: while let Some(line) = left.take() {
             if let Some(name) = name_of::<M>(line.text) {
-                names.add(name, count)?;
-                count += 1;
+                order.add(name)?;
             }
         }
-        Ok(ByPlace { names, count })
+        Ok(order)
+    }
+
+    /// Adds a record of the name behind the others.
+    pub(crate) fn add(&mut self, name: &'a [u8]) -> Result<(), AllocError>
+        requires behind { TellsAtMost self.old.count (told self.old.names) }
+        requires room { self.old.count + 1 < 2 ^ 64 }
+        ensures { OnOk result (IsPlaced name.now self.old self.new) }
+    {
+        self.names.add(name, self.count)?;
+        self.differ = self.differ && !self.has_several_near(name, self.count);
+        self.count += 1;
+        Ok(())
+    }
+
+    /// How many records there are.
+    pub(crate) fn count(&self) -> usize
+        ensures { result ≡ self.now.count }
+    {
+        self.count
+    }
+
+    /// Whether no two records have one name.
+    pub(crate) fn differ(&self) -> bool
+        ensures { result ≡ self.now.differ }
+    {
+        self.differ
     }
 
     /// Whether several records have the name.
@@ -87,11 +124,36 @@ impl<'a> ByPlace<'a> {
         self.names.has_several(name)
     }
 
+    /// Whether a record in front of this place, counted from 0 over the records, has the name.
+    pub(crate) fn has_before(&self, name: &[u8], place: usize) -> bool
+        ensures { result ≡ begins_before place (told self.now.names name.now) }
+    {
+        self.names.has_before(name, place)
+    }
+
+    // Whether several have it, where it was mostly noted at this turn.
+    fn has_several_near(&self, name: &[u8], turn: usize) -> bool
+        ensures { result ≡ are_several (told self.now.names name.now) }
+    {
+        match self.names.get_near(name, turn) {
+            Some(found) => found.count >= 2,
+            None => false,
+        }
+    }
+
     /// The place of the first record of the name; where none has it, how many records there are.
     pub(crate) fn place(&self, name: &[u8]) -> usize
         ensures { result ≡ kept_place self.now name.now }
     {
-        match self.names.get(name) {
+        self.place_near(name, self.count)
+    }
+
+    /// The same. Where it is the name of the record at this place, counted from 0 over records with
+    /// different names, it isn't hashed.
+    pub(crate) fn place_near(&self, name: &[u8], place: usize) -> usize
+        ensures { result ≡ kept_place self.now name.now }
+    {
+        match self.names.get_near(name, place) {
             Some(found) => found.first,
             None => self.count,
         }

@@ -1,9 +1,13 @@
 -- Claim: on files that were loaded, the answer is that of the model (`decides-on`, `decides-setting`).
 -- Way: such files have no problem but a bad setting (`loaded-problem`); then the tool's outcome is the
 -- decision: the tables that differ are what makes its files new (`none-differs`, `all-same`), and the
--- first of them that passes the limit is what the model finds (`new-among`).
+-- first of them that passes the limit is what the model finds (`new-among`). So what a command answers
+-- and what it decides agree (`command-agrees`), and then so do its plan's (`agreed`).
 use Rattle.std.proofs.Common.{◌≡◌, refl, sym, ap, subst, ◌∙◌, [], ◌∷◌, ◌≤◌, ℕ, Bool, true, false, length, List, Option, Some, None, IsSome, IfSome, Result, Ok, Err, arith, rules}
 use Rattle.std.specs.Prelude.{map, find, is_some, option_map, if◌then◌else◌, ◌&&◌}
+use Rattle.std.specs.Option.{option_or}
+use Rattle.std.proofs.lemmas.Bool.{cases_Bool, true≢false}
+use Rattle.std.proofs.Common.{inl, inr}
 use Rattle.std.specs.List.{list_all}
 use Rattle.acct_text.specs.declared.Tab.{Tab}
 use Rattle.acct_text.specs.declared.Tab.TheVariants.{Passwd, Shadow, Group, Gshadow, Subuid, Subgid}
@@ -15,7 +19,14 @@ use Rattle.acct_text.specs.ChangedTables.{changed_among, changed_tables, with_ne
 use Rattle.acct_text.specs.Contents.{Contents, same_content}
 use Rattle.acct_text.specs.Files.{table_of}
 use Rattle.acct_text.specs.Limits.{table_limit}
-use Rattle.acct_text.specs.Tables.{all_tables}
+use Rattle.acct_text.specs.Tables.{all_tables, same_table}
+use Rattle.intent_file.specs.Intent.{listed_in}
+use Rattle.suite_rules.proofs.Changed.{listed-changed}
+use Rattle.plan_tool.specs.SeenChanges.{files_with, new_bytes}
+use Rattle.account_model.specs.PlanTexts.{told}
+use Rattle.account_model.specs.Request.{Request}
+use Rattle.account_model.specs.declared.plan_form.PlanForm.{PlanForm}
+use Rattle.suite_answers.specs.declared.cause.Cause.TheVariants.{Same as IsSame}
 use Rattle.account_model.specs.declared.refusal.Refusal.{Refusal}
 use Rattle.account_model.specs.declared.tool.Tool.{Tool}
 use Rattle.account_model.specs.Text.{first_some}
@@ -26,7 +37,7 @@ use Rattle.account_model.specs.Change.{action_of}
 use Rattle.account_model.specs.BatchLines.{line_requests}
 use Rattle.account_model.specs.Settings.{Setting, bad_line, settings_of}
 use Rattle.account_model.specs.Words.{is_batch}
-use Rattle.account_model.specs.Answer.{FileProblem, TableTooLarge, BadSettingAt, Same, Changed, Answer as ToolAnswer, answer_lines, answer_outcome, answer_under, answer_written, refused, refused_line, succeeding, unusable, passes_limit, must_stand, table_problem, settings_problem, files_problem, new_table_problem, files_eq, cause_of, new_files}
+use Rattle.account_model.specs.Answer.{FileProblem, TableTooLarge, BadSettingAt, Same, Changed, Answer as ToolAnswer, AnswerCause, answer_asked, answer_lines, answer_outcome, answer_under, answer_written, refused, refused_line, succeeding, unusable, passes_limit, must_stand, table_problem, settings_problem, files_problem, new_table_problem, files_eq, cause_of, new_files}
 use Rattle.std.specs.Prelude.{IfOk}
 use Rattle.std.specs.Result.{result_err}
 use Rattle.login_defs.specs.declared.defs.Defs.{Defs}
@@ -35,7 +46,7 @@ use Rattle.login_defs.specs.declared.defs.DefsFault.TheVariants.{BadNumber}
 use Rattle.login_defs.specs.Faults.{file_fault}
 use Rattle.tool_answers.specs.declared.decision.Decision.{Decision}
 use Rattle.tool_answers.specs.declared.decision.Decision.TheVariants.{Change as DecidesChange, Same as DecidesSame, Refuse, RefuseLine}
-use Rattle.tool_answers.specs.Decisions.{decision_by, decision_of, decision_of_lines, line_refusal_output, refusal_output, written_output}
+use Rattle.tool_answers.specs.Decisions.{decision_by, decision_of, decision_of_lines, line_refusal_output, refusal_output, written_decision, written_output}
 use Rattle.suite_tools.proofs.CarryLemmas.{made-stands}
 use Rattle.suite_tools.specs.Deciding.{command_decision}
 use Rattle.commit_steps.proofs.WithTables.{makes-change, with-changed}
@@ -48,7 +59,7 @@ use Rattle.suite_session.proofs.AnswerLemmas.{batch-tool}
 use Rattle.suite_session.specs.Answers.{answer_on, cause_of_answer, given_for, IsAnswerOn}
 use Rattle.suite_session.specs.Deeds.{is_change}
 use Rattle.suite_session.specs.Loading.{DecidesOn}
-use Rattle.suite_core.specs.Deciding.{bad_line as bad_line_of, AnswersDecision, large_table, settings_text}
+use Rattle.suite_core.specs.Deciding.{bad_line as bad_line_of, decided_by, large_in, large_table, settings_text}
 
 -- ---- The files that were loaded
 
@@ -184,217 +195,248 @@ module _ (old new : Contents)
       by-test rest true same = rest same
       by-test rest false same = absurd (cc same)
 
--- ---- The answer
+-- ---- The tables of a change
 
--- an answer that is this one has its parts
-answer-is : (asked : Question) (files : Files) (defs : Option Bytes) (given : Answer)
-    (told : ToolAnswer) → answer_on asked files defs ≡ told →
-    given.outcome.cause ≡ cause_of_answer told.cause → given.outcome.status ≡ told.status →
-    given.out ≡ told.output → given.err ≡ told.error → IsAnswerOn asked files defs given
-answer-is asked files defs given told is cause status out err = record {
-  has_cause = cause ∙ ap (λ (one : ToolAnswer). cause_of_answer one.cause) (sym is);
-  has_status = status ∙ ap (λ (one : ToolAnswer). one.status) (sym is);
-  has_out = out ∙ ap (λ (one : ToolAnswer). one.output) (sym is);
-  has_err = err ∙ ap (λ (one : ToolAnswer). one.error) (sym is);
-}
+-- what tables hold for one of them is what they list for it
+listed-bytes : (tables : List NewTable) (table : Tab) → new_bytes tables table ≡ listed_in tables table
+listed-bytes [] table = refl
+listed-bytes (new ∷ tables) table = elim (cases_Bool (same_table new.table table)) [
+  | inl same ↦ rw same refl
+  | inr other ↦ rw other (listed-bytes tables table)
+]
 
-module _ (asked : Question) (files : Files) (defs : Option Bytes) where
-  abbrev tool : Tool
-  tool = asked.request.tool
+module _ (old new : Files)
+    (stands : (table : Tab) → is_some (table_of new table) ≡ is_some (table_of old table)) where
+  -- what the tables that differ hold for a table, or else what stood there, is what will stand there
+  new-or-old : (table : Tab) →
+      option_or (new_bytes (changed_tables (table_of old) (table_of new)) table) (table_of old table)
+      ≡ table_of new table
+  new-or-old table = ap (λ (bytes : Option Bytes). option_or bytes (table_of old table))
+      (listed-bytes (changed_tables (table_of old) (table_of new)) table)
+      ∙ listed-changed (table_of old) (table_of new) stands table
 
-  abbrev settings : List Setting
-  settings = settings_of (settings_text defs)
+  -- so the files with them are the new files
+  with-new : files_with (changed_tables (table_of old) (table_of new)) old ≡ new
+  with-new = λ i. record {
+    passwd = new-or-old Passwd i;
+    shadow = new-or-old Shadow i;
+    group = new-or-old Group i;
+    gshadow = new-or-old Gshadow i;
+    subuid = new-or-old Subuid i;
+    subgid = new-or-old Subgid i;
+  }
 
-  -- the answer on files that can be used
-  abbrev under : ToolAnswer
-  under = answer_under asked.request asked.command.input asked.command.day files settings
+-- ---- What a command answers and what it decides
 
-  -- the answer by the problem of the files
-  by-problem : (problem : Option FileProblem) → files_problem files defs ≡ problem →
-      answer_on asked files defs ≡ (elim problem as (λ one. ToolAnswer) [
-        | Some found ↦ unusable tool found
-        | None ↦ under
-      ])
-  by-problem problem is = ap (λ (one : Option FileProblem). elim one as (λ other. ToolAnswer) [
-    | Some found ↦ unusable tool found
-    | None ↦ under
-  ]) is
+-- what a command that is carried out answers on the files, and what it decides on them
+data Agree (tool : Tool) (files : Files) : ToolAnswer → Decision → Type 0 where
+  passes : (table : Tab) (decision : Decision) → large_in decision ≡ Some table →
+      Agree tool files (unusable tool (TableTooLarge table)) decision
+  refuses : (refusal : Refusal) →
+      Agree tool files (refused tool refusal) (Refuse refusal (refusal_output tool refusal))
+  line_refuses : (line : LineRefusal) →
+      Agree tool files (refused_line line)
+      (RefuseLine line.number line.refusal (line_refusal_output line))
+  stays : (written : Written) →
+      Agree tool files (succeeding Same written) (DecidesSame (written_output written))
+  changes : (written : Written) (tables : List NewTable) →
+      changed_tables (table_of files) (table_of written.files) ≡ tables →
+      large_table tables ≡ None → files_with tables files ≡ written.files →
+      Agree tool files (succeeding (Changed written.files) written)
+      (DecidesChange tables (written_output written))
 
-  -- a bad setting is the answer
-  pub decides-setting : (line : ℕ) → files_problem files defs ≡ Some (BadSettingAt line) →
-      DecidesOn asked files defs (Stay (given_for tool (BadSetting line)))
-  decides-setting line is =
-      let told = by-problem (Some (BadSettingAt line)) is in (
-        answer-is asked files defs _ _ told refl refl refl refl,
-        ap (λ (one : ToolAnswer). is_change one.cause) told,
-      )
+module _ (files : Files)
+    (small : (table : Tab) (bytes : Bytes) → table_of files table ≡ Some bytes →
+    length bytes ≤ table_limit) where
+  -- what is left where a command isn't refused
+  module _ (tool : Tool) (written : Written)
+      (stands : (table : Tab) →
+      is_some (table_of written.files table) ≡ is_some (table_of files table)) where
+    -- the tables that differ once it is done
+    abbrev changed : List NewTable
+    changed = changed_tables (table_of files) (table_of written.files)
 
-  module _ (sound : files_problem files defs ≡ None)
-      (small : (table : Tab) (bytes : Bytes) → table_of files table ≡ Some bytes →
-      length bytes ≤ table_limit) where
-    -- What a command leaves, to which this is the answer.
-    module _ (written : Written)
-        (is : answer_on asked files defs ≡ answer_written tool files written)
-        (stands : (table : Tab) →
-        is_some (table_of written.files table) ≡ is_some (table_of files table)) where
-      -- the tables that differ once it is done
-      abbrev changed : List NewTable
-      changed = changed_tables (table_of files) (table_of written.files)
+    -- the answer, by the problem of what is left and by whether all tables stay
+    abbrev answer_by : Option FileProblem → Bool → ToolAnswer
+    answer_by problem same = elim problem as (λ other. ToolAnswer) [
+      | Some found ↦ unusable tool found
+      | None ↦ succeeding (if same then Same else Changed written.files) written
+    ]
 
-      -- the answer to what is left, by the problem of that
-      abbrev written-answer : Option FileProblem → ToolAnswer
-      written-answer problem = elim problem as (λ other. ToolAnswer) [
-        | Some found ↦ unusable tool found
-        | None ↦ succeeding (cause_of files written.files) written
-      ]
+    -- by the tables that differ, and the first of them that is large
+    by-tables : (tables : List NewTable) (same : Bool) (large : Option Tab) → changed ≡ tables →
+        files_eq files written.files ≡ same → large_table tables ≡ large →
+        Agree tool files (answer_by (option_map TableTooLarge large) same)
+        (decision_by tables (written_output written))
+    by-tables [] true large none same is =
+        subst (λ (one : Option Tab). Agree tool files (answer_by (option_map TableTooLarge one) true)
+        (DecidesSame (written_output written))) is (stays written)
+    by-tables [] false large none differs is =
+        absurd (true≢false (sym (none-differs (table_of files) (table_of written.files) small stands
+        all_tables none) ∙ differs))
+    by-tables (first ∷ rest) same (Some table) are is large =
+        passes table (DecidesChange (first ∷ rest) (written_output written)) large
+    by-tables (first ∷ rest) true None are same large =
+        absurd (cc (sym are
+        ∙ all-same (table_of files) (table_of written.files) small stands all_tables same))
+    by-tables (first ∷ rest) false None are differs large =
+        changes written (first ∷ rest) are large
+        (subst (λ (tables : List NewTable). files_with tables files ≡ written.files) are
+        (with-new files written.files stands))
 
-      -- the answer to what is left, by the first large table
-      of-written : (large : Option Tab) → large_table changed ≡ large →
-          answer_on asked files defs ≡ written-answer (option_map TableTooLarge large)
-      of-written large is_large =
-          is ∙ ap written-answer (new-among (table_of files) (table_of written.files) small stands
-          all_tables ∙ ap (λ (one : Option Tab). option_map TableTooLarge one) is_large)
+    -- what is left is answered as it is decided
+    written-agrees : Agree tool files (answer_written tool files written)
+        (decision_by changed (written_output written))
+    written-agrees =
+        subst (λ (problem : Option FileProblem). Agree tool files
+        (answer_by problem (files_eq files written.files)) (decision_by changed (written_output written)))
+        (sym (new-among (table_of files) (table_of written.files) small stands all_tables))
+        (by-tables changed (files_eq files written.files) (large_table changed) refl refl refl)
 
-      -- what stands already is left
-      same-on : changed ≡ [] → (decided : Decided) →
-          AnswersDecision asked (DecidesSame (written_output written)) decided →
-          DecidesOn asked files defs decided
-      same-on none (Stay given) shown =
-          let same = none-differs (table_of files) (table_of written.files) small stands
-          all_tables none in
-          let told = of-written None (ap large_table none)
-          ∙ ap (λ (one : Bool). succeeding (if one then Same else Changed written.files) written)
-          same
-          in (
-            subst (λ (one : Answer). IsAnswerOn asked files defs one) (sym shown)
-                (answer-is asked files defs _ _ told refl refl refl refl),
-            ap (λ (one : ToolAnswer). is_change one.cause) told,
-          )
-      same-on none (Changes new given) shown = absurd shown
-
-      -- other files are left
-      change-on : (tables : List NewTable) → changed ≡ tables →
-          files_eq files written.files ≡ false → (decided : Decided) →
-          AnswersDecision asked (DecidesChange tables (written_output written)) decided →
-          DecidesOn asked files defs decided
-      change-on tables are differs (Changes new given) shown =
-          let told = of-written None (ap large_table are ∙ shown.1)
-          ∙ ap (λ (one : Bool). succeeding (if one then Same else Changed written.files) written)
-          differs in
-          let cause = ap (λ (one : ToolAnswer). one.cause) told in
-          let allowed = changes-is asked.request asked.command.input asked.command.day files defs
-          written.files (ap new_files cause) in
-          subst (λ (one : List NewTable). DecidesOn asked files defs (Changes one given))
-          (are ∙ sym shown.0) (
-            subst (λ (one : Answer). IsAnswerOn asked files defs one) (sym shown.2)
-                (answer-is asked files defs _ _ told refl refl refl refl),
-            cause ∙ ap Changed (sym (with-changed files written.files allowed)),
-            makes-change files written.files allowed,
-          )
-      change-on tables are differs (Stay given) shown =
-          let told = of-written (Some shown.0) (ap large_table are ∙ shown.1) in (
-            subst (λ (one : Answer). IsAnswerOn asked files defs one) (sym shown.2)
-                (answer-is asked files defs _ _ told refl refl refl refl),
-            ap (λ (one : ToolAnswer). is_change one.cause) told,
-          )
-
-      -- by the tables that differ
-      by-tables : (tables : List NewTable) → changed ≡ tables → (decided : Decided) →
-          AnswersDecision asked (decision_by tables (written_output written)) decided →
-          DecidesOn asked files defs decided
-      by-tables [] none decided shown = same-on none decided shown
-      by-tables (first ∷ rest) are decided shown =
-          change-on (first ∷ rest) are (differs (files_eq files written.files) refl) decided shown
-        where
-          differs : (same : Bool) → files_eq files written.files ≡ same →
-              files_eq files written.files ≡ false
-          differs true same = absurd (cc (sym are
-              ∙ all-same (table_of files) (table_of written.files) small stands all_tables same))
-          differs false same = same
-
-      -- the answer to what is left
-      pub leaves-on : (decided : Decided) →
-          AnswersDecision asked (decision_by changed (written_output written)) decided →
-          DecidesOn asked files defs decided
-      leaves-on decided shown = by-tables changed refl decided shown
-
-    -- the tool refuses
-    refuses-on : (refusal : Refusal) → answer_on asked files defs ≡ refused tool refusal →
-        (decided : Decided) →
-        AnswersDecision asked (Refuse refusal (refusal_output tool refusal)) decided →
-        DecidesOn asked files defs decided
-    refuses-on refusal told (Stay given) shown = (
-      subst (λ (one : Answer). IsAnswerOn asked files defs one) (sym shown)
-          (answer-is asked files defs _ _ told refl refl refl refl),
-      ap (λ (one : ToolAnswer). is_change one.cause) told,
-    )
-    refuses-on refusal told (Changes new given) shown = absurd shown
-
-    -- the tool of a line refuses
-    refuses-line : (line : LineRefusal) → answer_on asked files defs ≡ refused_line line →
-        (decided : Decided) →
-        AnswersDecision asked
-        (RefuseLine line.number line.refusal (line_refusal_output line)) decided →
-        DecidesOn asked files defs decided
-    refuses-line line told (Stay given) shown = (
-      subst (λ (one : Answer). IsAnswerOn asked files defs one) (sym shown)
-          (answer-is asked files defs _ _ told refl refl refl refl),
-      ap (λ (one : ToolAnswer). is_change one.cause) told,
-    )
-    refuses-line line told (Changes new given) shown = absurd shown
-
+  module _ (request : Request) (input : Bytes) (day : ℕ) (settings : List Setting) where
     -- what the tool comes to by itself
     abbrev outcome : Result Made Refusal
-    outcome = outcome_of
-        (action_of asked.request asked.command.input asked.command.day files settings) files
+    outcome = outcome_of (action_of request input day files settings) files
 
     -- what the lines come to
     abbrev lines : Result Written LineRefusal
-    lines = batch (ensures asked.request) (line_requests asked.command.input) asked.command.day
-        settings files
+    lines = batch (ensures request) (line_requests input) day settings files
 
-    by-tool : (came : Result Made Refusal) → outcome ≡ came →
-        answer_on asked files defs ≡ answer_outcome tool files came → (decided : Decided) →
-        AnswersDecision asked (decision_of tool files came) decided →
-        DecidesOn asked files defs decided
-    by-tool (Err refusal) is told decided shown = refuses-on refusal told decided shown
-    by-tool (Ok made) is told decided shown =
-        leaves-on (written_by tool made) told
-        (made-stands (action_of asked.request asked.command.input asked.command.day files settings)
-        files made is) decided shown
+    tool-agrees : (came : Result Made Refusal) → outcome ≡ came →
+        Agree request.tool files (answer_outcome request.tool files came)
+        (decision_of request.tool files came)
+    tool-agrees (Err refusal) is = refuses refusal
+    tool-agrees (Ok made) is = written-agrees request.tool (written_by request.tool made)
+        (made-stands (action_of request input day files settings) files made is)
 
-    by-lines : is_batch tool ≡ true → (came : Result Written LineRefusal) → lines ≡ came →
-        answer_on asked files defs ≡ answer_lines files came → (decided : Decided) →
-        AnswersDecision asked (decision_of_lines files came) decided →
-        DecidesOn asked files defs decided
-    by-lines is_one (Err line) is told decided shown = refuses-line line told decided shown
-    by-lines is_one (Ok written) is told decided shown =
-        leaves-on written
-        (told ∙ ap (λ (one : Tool). answer_written one files written)
-        (sym (batch-tool tool is_one)))
-        (batch-stands (ensures asked.request) (line_requests asked.command.input) asked.command.day
-        settings files written is)
-        decided shown
+    lines-agree : is_batch request.tool ≡ true → (came : Result Written LineRefusal) → lines ≡ came →
+        Agree request.tool files (answer_lines files came) (decision_of_lines files came)
+    lines-agree is_one (Err line) is = line_refuses line
+    lines-agree is_one (Ok written) is =
+        subst (λ (one : Tool). Agree request.tool files (answer_written one files written)
+        (written_decision files written)) (batch-tool request.tool is_one)
+        (written-agrees request.tool written
+        (batch-stands (ensures request) (line_requests input) day settings files written is))
 
-    by-command : (is_one : Bool) → is_batch tool ≡ is_one → (decided : Decided) →
-        AnswersDecision asked (if is_one then decision_of_lines files lines
-        else decision_of tool files outcome) decided →
-        DecidesOn asked files defs decided
-    by-command true is decided shown = by-lines is lines refl
-        (by-problem None sound ∙ ap (λ (one : Bool). if one then answer_lines files lines
-        else answer_outcome tool files outcome) is) decided shown
-    by-command false is decided shown = by-tool outcome refl
-        (by-problem None sound ∙ ap (λ (one : Bool). if one then answer_lines files lines
-        else answer_outcome tool files outcome) is) decided shown
+    -- on files that can be used a command answers as it decides
+    command-agrees : (is_one : Bool) → is_batch request.tool ≡ is_one →
+        Agree request.tool files
+        (if is_one then answer_lines files lines
+        else answer_outcome request.tool files outcome)
+        (if is_one then decision_of_lines files lines else decision_of request.tool files outcome)
+    command-agrees true is = lines-agree is lines refl
+    command-agrees false is = tool-agrees outcome refl
 
-    -- the claim
-    pub decides-on : (decision : Decision) →
-        decision
-        ≡ command_decision asked.request asked.command.input asked.command.day files settings →
-        (decided : Decided) → AnswersDecision asked decision decided →
-        DecidesOn asked files defs decided
-    decides-on decision is decided shown = by-command (is_batch tool) refl decided
-        (subst (λ (one : Decision). AnswersDecision asked one decided) is shown)
+-- ---- The answer
+
+-- a tool's answer, as that of a session
+abbrev given_of : ToolAnswer → Answer
+given_of told = record {
+  outcome = record { status = told.status; cause = cause_of_answer told.cause };
+  out = told.output;
+  err = told.error;
+}
+
+-- what is decided by a tool's answer on the files
+abbrev decided_of : Files → AnswerCause → Answer → Decided
+decided_of files (Changed new) given =
+    Changes (changed_tables (table_of files) (table_of new)) given
+decided_of files cause given = Stay given
+
+abbrev decided_on : Files → ToolAnswer → Decided
+decided_on files told = decided_of files told.cause (given_of told)
+
+-- what a command decides is what its answer says, carried out or planned
+agreed : (tool : Tool) (files : Files) (plan : Option PlanForm) (made : ToolAnswer)
+    (decision : Decision) → Agree tool files made decision →
+    decided_by tool plan files decision ≡ decided_on files (answer_asked plan files made)
+agreed tool files None _ _ (passes table decision large) = rw (large, decided_by) refl
+agreed tool files (Some form) _ _ (passes table decision large) = rw (large, decided_by) refl
+agreed tool files None _ _ (refuses refusal) = refl
+agreed tool files (Some form) _ _ (refuses refusal) = refl
+agreed tool files None _ _ (line_refuses line) = refl
+agreed tool files (Some form) _ _ (line_refuses line) = refl
+agreed tool files None _ _ (stays written) = refl
+agreed tool files (Some form) _ _ (stays written) = refl
+agreed tool files None _ _ (changes written tables are large new) =
+    rw (large, decided_by) (ap (λ (listed : List NewTable). Changes listed (given_of
+    (succeeding (Changed written.files) written))) (sym are))
+agreed tool files (Some form) _ _ (changes written tables are large new) =
+    rw (large, decided_by) (ap (λ (after : Files). Stay (record {
+      outcome = record { status = written.status; cause = IsSame };
+      out = told form files after written.status written.output written.error;
+      err = written.error;
+    })) new)
+
+module _ (asked : Question) (files : Files) (defs : Option Bytes) where
+  -- what the answer says is decided
+  answer-decides : DecidesOn asked files defs (decided_on files (answer_on asked files defs))
+  answer-decides = by (answer_on asked files defs).cause refl
+    where
+      given : Answer
+      given = given_of (answer_on asked files defs)
+
+      by : (cause : AnswerCause) → (answer_on asked files defs).cause ≡ cause →
+          DecidesOn asked files defs (decided_of files cause given)
+      by (Changed new) is =
+          let allowed = changes-is asked.request asked.command.input asked.command.day files defs new
+          (ap new_files is) in (
+            record { has_cause = refl; has_status = refl; has_out = refl; has_err = refl },
+            is ∙ ap Changed (sym (with-changed files new allowed)),
+            makes-change files new allowed,
+          )
+      by cause is = (
+        record { has_cause = refl; has_status = refl; has_out = refl; has_err = refl },
+        ap is_change is,
+      )
+
+  -- the answer of the command, by the problem of the files
+  by-problem : (problem : Option FileProblem) → files_problem files defs ≡ problem →
+      answer_on asked files defs
+      ≡ answer_asked asked.request.plan files (elim problem as (λ one. ToolAnswer) [
+        | Some found ↦ unusable asked.request.tool found
+        | None ↦ answer_under asked.request asked.command.input asked.command.day files
+            (settings_of (settings_text defs))
+      ])
+  by-problem problem is = ap (λ (one : Option FileProblem). answer_asked asked.request.plan files
+      (elim one as (λ other. ToolAnswer) [
+        | Some found ↦ unusable asked.request.tool found
+        | None ↦ answer_under asked.request asked.command.input asked.command.day files
+            (settings_of (settings_text defs))
+      ])) is
+
+  -- a bad setting is the answer, also to a plan
+  setting-told : (plan : Option PlanForm) (line : ℕ) →
+      Stay (given_for asked.request.tool (BadSetting line))
+      ≡ decided_on files (answer_asked plan files (unusable asked.request.tool (BadSettingAt line)))
+  setting-told None line = refl
+  setting-told (Some form) line = refl
+
+  pub decides-setting : (line : ℕ) → files_problem files defs ≡ Some (BadSettingAt line) →
+      DecidesOn asked files defs (Stay (given_for asked.request.tool (BadSetting line)))
+  decides-setting line is = subst (DecidesOn asked files defs)
+      (ap (decided_on files) (by-problem (Some (BadSettingAt line)) is)
+      ∙ sym (setting-told asked.request.plan line)) answer-decides
+
+  -- the claim
+  pub decides-on : files_problem files defs ≡ None →
+      ((table : Tab) (bytes : Bytes) → table_of files table ≡ Some bytes →
+      length bytes ≤ table_limit) → (decision : Decision) →
+      decision
+      ≡ command_decision asked.request asked.command.input asked.command.day files
+      (settings_of (settings_text defs)) →
+      DecidesOn asked files defs
+      (decided_by asked.request.tool asked.request.plan files decision)
+  decides-on sound small decision is =
+      let request = asked.request in
+      let settings = settings_of (settings_text defs) in
+      let agrees = command-agrees files small request asked.command.input asked.command.day settings
+      (is_batch request.tool) refl in
+      subst (DecidesOn asked files defs)
+      (ap (decided_on files) (by-problem None sound)
+      ∙ sym (agreed request.tool files request.plan _ _ agrees)
+      ∙ ap (decided_by request.tool request.plan files) (sym is))
+      answer-decides
 
 -- ---- The settings that were read
 

@@ -9,11 +9,12 @@ ghost use Rattle.account_model.specs.Settings.{settings_of};
 ghost use Rattle.login_defs.specs.Faults.{file_fault};
 ghost use Rattle.login_defs.specs.Held.{HasSettings, IsHeld};
 ghost use Rattle.suite_session.specs.Answers.{given_for};
-ghost use Rattle.suite_core.specs.Deciding.{AnswersDecision, bad_line, large_table, settings_text, with_output};
+ghost use Rattle.suite_core.specs.Deciding.{asked_decision, bad_line, decided_by, large_in, large_table, settings_text, small_decided, with_output};
 
 use acct_outside::Name;
 use acct_text::{Bytes, Files, NewTables, TABLE_LIMIT, Tab};
 use login_defs::{Defs, DefsFault};
+use plan_tool::{PlanForm, as_plan};
 use std::alloc::{AllocError, Global};
 use suite_answers::{Answer, Cause, Outcome, Which};
 use suite_session::{Decided, Question, Tools};
@@ -36,7 +37,7 @@ impl Tools for Suite {
                 let input = asked.input();
                 let day = asked.day();
                 let decision = decide(alloc, parsed, input, files, &settings, day)?;
-                answer_to(alloc, asked, decision)
+                answer_to(alloc, asked, files, decision)
             }
             Err(fault) => bad_setting(alloc, asked, fault),
         }
@@ -65,40 +66,63 @@ fn settings_in(defs: Option<&Bytes>) -> Result<Defs, DefsFault>
     }
 }
 
-// The answer to what the command decides.
-fn answer_to(alloc: Global, asked: &Question, decision: Decision) -> Result<Decided, AllocError>
-    ensures { IfOk result (AnswersDecision asked.now decision) }
+// The answer to what the command decides on the files, of which each new table must keep its limit.
+fn answer_to(
+    alloc: Global,
+    asked: &Question,
+    files: &Files,
+    decision: Decision,
+) -> Result<Decided, AllocError>
+    ensures { IfOk result (λ decided.
+        decided ≡ decided_by asked.now.request.tool asked.now.request.plan files.now decision) }
+{
+    if let Some(table) = large_in(&decision) {
+        drop(decision);
+        let cause = Cause::TooLarge(Which::File(Name::Table(table)));
+        return Ok(Decided::Stay(asked.try_to_tell(alloc, cause)?));
+    }
+    let plan = asked.parsed().planned;
+    Ok(small_decided(as_asked(alloc, plan, files, decision)?))
+}
+
+// The decision on the files as it is asked for: carried out, or planned.
+fn as_asked(
+    alloc: Global,
+    plan: Option<PlanForm>,
+    files: &Files,
+    decision: Decision,
+) -> Result<Decision, AllocError>
+    ensures { IfOk result (λ told. told ≡ asked_decision plan files.now decision) }
+{
+    match plan {
+        None => Ok(decision),
+        Some(form) => as_plan(alloc, form, decision, files),
+    }
+}
+
+// The answer to a decision whose tables keep their limit.
+fn small_decided(decision: Decision) -> Decided
+    ensures { result ≡ small_decided decision }
 {
     match decision {
-        Decision::Change(new, output) => change(alloc, asked, new, output),
-        Decision::Same(output) => Ok(Decided::Stay(with_output(Cause::Same, output))),
+        Decision::Change(new, output) => Decided::Change(new, with_output(Cause::Changed, output)),
+        Decision::Same(output) => Decided::Stay(with_output(Cause::Same, output)),
         Decision::Refuse(refusal, output) => {
-            Ok(Decided::Stay(with_output(Cause::Refused(refusal), output)))
+            Decided::Stay(with_output(Cause::Refused(refusal), output))
         }
         Decision::RefuseLine(line, refusal, output) => {
-            let cause = Cause::RefusedLine(line, refusal);
-            Ok(Decided::Stay(with_output(cause, output)))
+            Decided::Stay(with_output(Cause::RefusedLine(line, refusal), output))
         }
     }
 }
 
-// The answer to a change, of which each table must keep its limit.
-fn change(
-    alloc: Global,
-    asked: &Question,
-    new: NewTables,
-    output: Output,
-) -> Result<Decided, AllocError>
-    ensures { IfOk result (AnswersDecision asked.now (Decision.Change new output)) }
+// The first table of a decision that gets more bytes than it may have.
+fn large_in(decision: &Decision) -> Option<Tab>
+    ensures { result ≡ large_in decision.now }
 {
-    match large_table(&new) {
-        Some(table) => {
-            drop(new);
-            drop(output);
-            let cause = Cause::TooLarge(Which::File(Name::Table(table)));
-            Ok(Decided::Stay(asked.try_to_tell(alloc, cause)?))
-        }
-        None => Ok(Decided::Change(new, with_output(Cause::Changed, output))),
+    match decision {
+        Decision::Change(new, _) => large_table(new),
+        _ => None,
     }
 }
 

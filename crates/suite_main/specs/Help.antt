@@ -14,3 +14,8 @@ AskForTools words =
 abbrev pub AskAbout : List Word → Tool → Type 0
 AskAbout words tool = (words ≡ tool_name tool ∷ codes "--help" ∷ [])
     ⊎ (words ≡ tool_name tool ∷ codes "-h" ∷ [])
+
+-- the words ask for the text of plans
+abbrev pub AskAboutPlans : List Word → Type 0
+AskAboutPlans words = (words ≡ codes "plan" ∷ codes "--help" ∷ [])
+    ⊎ (words ≡ codes "plan" ∷ codes "-h" ∷ [])

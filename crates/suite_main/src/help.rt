@@ -21,6 +21,7 @@ mod grpck;
 mod grpconv;
 mod grpunconv;
 mod passwd;
+mod plan;
 mod pwck;
 mod pwconv;
 mod pwunconv;
@@ -40,6 +41,8 @@ pub(crate) fn text_of_suite() -> &'static str
     "\
 Usage: accounts TOOL -P DIR [options] [operand]
        accounts TOOL --help
+       accounts plan [--diff | --json] TOOL -P DIR [options] [operand]
+       accounts plan --help
        accounts rehearse SEED COUNT
        accounts --help
        accounts --version
@@ -47,6 +50,9 @@ Usage: accounts TOOL -P DIR [options] [operand]
 Read, check and change the account files of the system image in DIR: passwd,
 shadow, group, gshadow, subuid and subgid in DIR/etc. A command makes its whole
 change or none of it, also where it is killed.
+
+A plan tells what a command would answer now and what it would change, and
+changes nothing.
 
 A rehearsal carries out COUNT commands, 1 to 20000, on tables in memory, and
 sums up what they leave; the numbers in their names begin at SEED, 0 to
@@ -83,6 +89,11 @@ Exit status, where no tool has answered:
   100  want of memory
   102  the output or the message can't be written
 "
+}
+
+/// The text of plans.
+pub(crate) fn text_of_plans() -> &'static str {
+    plan::text()
 }
 
 /// The text of a tool: its use, and the options and rules by which the tool's words are read, in lines

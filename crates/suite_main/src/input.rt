@@ -16,7 +16,7 @@ pub(crate) fn named_file(alloc: Global, words: &[Word]) -> Result<Option<Bytes>,
 {
     match read_words(alloc, words) {
         Ok(parsed) => operand_file(alloc, parsed.tool, &parsed.operands),
-        Err(WordFault::Memory) => Err(AllocError),
+        Err(fault) if matches!(&fault, WordFault::Memory) => Err(AllocError),
         Err(_) => Ok(None),
     }
 }

@@ -1,10 +1,11 @@
 // The words after the program's name, and what main answers to them by itself.
 ghost use Rattle.std.specs.Prelude.{◌≡◌, ◌↔◌, [], ◌∷◌, Some, IsTrue, codes};
 ghost use Rattle.rehearsal.specs.Asked.{BeginsRehearsal};
-ghost use Rattle.suite_main.specs.Help.{AskAbout, AskForTools};
+ghost use Rattle.suite_main.specs.Help.{AskAbout, AskAboutPlans, AskForTools};
 
 use account_model::Tool;
 use acct_text::Word;
+use option_words::command_words;
 use rehearsal::asks_for_rehearsal;
 use std::rt::Env;
 use std::{env, io};
@@ -16,6 +17,8 @@ pub(crate) enum Request {
     Help,
     /// main, with the text of this tool.
     ToolHelp(Tool),
+    /// main, with the text of plans.
+    PlanHelp,
     /// main, with the version.
     Version,
     /// The rehearsal.
@@ -40,6 +43,7 @@ pub(crate) fn words_of<R: Env + AllocGlobal>(rt: &R) -> io::Result<Vec<Word>> {
 pub(crate) fn request_of(words: &[Word]) -> Request
     ensures help { (result ≡ Request.Help) ↔ AskForTools words.now }
     ensures tool_help { (tool : Tool) → (result ≡ Request.ToolHelp tool) ↔ AskAbout words.now tool }
+    ensures plan_help { (result ≡ Request.PlanHelp) ↔ AskAboutPlans words.now }
     ensures version { (result ≡ Request.Version) ↔ (words.now ≡ codes "--version" ∷ []) }
     ensures rehearsal { (result ≡ Request.Rehearsal) ↔ BeginsRehearsal words.now }
 {
@@ -51,15 +55,16 @@ pub(crate) fn request_of(words: &[Word]) -> Request
     }
     match asked_about(words) {
         Some(tool) => Request::ToolHelp(tool),
+        None if asks_about_plans(words) => Request::PlanHelp,
         None if asks_for_rehearsal(words) => Request::Rehearsal,
         None => Request::Suite,
     }
 }
 
-/// The name that begins a line on the error stream: of the tool that the first word names, and else of
-/// the program.
+/// The name that begins a line on the error stream: of the tool that the first word names, of a plan the
+/// first behind its form, and else of the program.
 pub(crate) fn teller(words: &[Word]) -> &'static str {
-    match words.split_first() {
+    match command_words(words).split_first() {
         Some((word, _)) => match Tool::named(word.as_slice()) {
             Some(tool) => tool.name(),
             None => "accounts",
@@ -77,6 +82,18 @@ fn asked_about(words: &[Word]) -> Option<Tool>
         return Tool::named(name.as_slice());
     }
     None
+}
+
+// Whether the words ask about plans.
+fn asks_about_plans(words: &[Word]) -> bool
+    ensures { IsTrue result ↔ AskAboutPlans words.now }
+{
+    match words.split_first() {
+        Some((word, options)) if is_only(options, b"--help") || is_only(options, b"-h") => {
+            word.as_slice() == b"plan".as_slice()
+        }
+        _ => false,
+    }
 }
 
 // Whether this is the only word.

@@ -92,8 +92,8 @@ pub(crate) fn change_fields(
 ) -> Result<Script, AllocError>
     ensures { IfOk result (λ script. seen_script script ≡ record no_edits {
       passwd = each_where (is_named passwd_format (operand asked.now)) (λ user. record user {
-        comment = unwrap_or comment.entry user.comment;
-        shell = unwrap_or shell.entry user.shell;
+        comment = unwrap_or comment user.comment;
+        shell = unwrap_or shell user.shell;
       }) ∷ [];
     }) }
 {

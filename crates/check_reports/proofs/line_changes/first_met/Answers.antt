@@ -4,7 +4,7 @@ use Rattle.acct_text.specs.Lines.{lines_of}
 use Rattle.account_model.specs.Format.{records_of}
 use Rattle.acct_tables.specs.SeenLines.{seen_line}
 use Rattle.check_reports.specs.LineChanges.{is_met}
-use Rattle.check_reports.proofs.ChangeLemmas.{found-behind, found-here}
+use Rattle.check_reports.proofs.ChangeLemmas.{differ-none, found-behind, found-here}
 use Rattle.check_reports.proofs.line_changes.first_met.Goals as goal
 
 pub lines-preserved : goal.lines-preserved
@@ -20,6 +20,14 @@ lines-preserved g c =
 
 pub lines-smaller : goal.lines-smaller
 lines-smaller g c = omega (arith, ap length c.in-Some.ensures.taken)
+
+pub returns-then-differ : goal.returns-then-differ
+returns-then-differ g c =
+    let format = g.R.TableRecord.format in
+    let all = records_of format (lines_of c.args.text.now) in
+    sym (ap (option_map format.name)
+    (differ-none format (g.C.LineChange.change c.args.change.now) all all c.args.order.now
+    c.requires (c.requires.differ (sym c.differ.ensures ∙ c.if-differ.true))))
 
 pub returns-in-Some-met : goal.returns-in-Some-met
 returns-in-Some-met g c =

@@ -1,55 +1,85 @@
-use Rattle.std.proofs.Common.{◌∙◌, refl, sym, ap}
-use Rattle.std.specs.Prelude.{is_some}
-use Rattle.acct_text.specs.Lines.{file_bytes, lines_of}
-use Rattle.account_model.specs.Edits.{with_line}
-use Rattle.acct_tables.specs.NameIndex.{told}
+use Rattle.std.proofs.Common.{◌∙◌, ◌+◌, ◌++◌, refl, sym, subst}
+use Rattle.std.specs.List.{cons_option}
+use Rattle.std.specs.Option.{option_to_list}
+use Rattle.std.proofs.lemmas.Result.{on_ok_weaker}
+use Rattle.acct_text.specs.Lines.{lines_of}
 use Rattle.check_reports.specs.declared.making.Grown.{Grown}
-use Rattle.check_reports.proofs.GrownLemmas.{grown-more, made-written, more-grown, name-found, second-false}
+use Rattle.check_reports.specs.Gathered.{IsGrown}
+use Rattle.check_reports.specs.Sorted.{IsOrderOf}
+use Rattle.check_reports.proofs.GrownLemmas.{grown-has, grown-known, grown-more, made-written, more-grown}
 use Rattle.check_reports.proofs.making.grow.Goals as goal
+
+pub returns-then-is_known-clause-lines : goal.returns-then-is_known-clause-lines
+returns-then-is_known-clause-lines g c = λ before rest is grown.
+    let main = g.M.TableRecord.format in
+    let format = g.H.TableRecord.format in
+    let m = g.P.AccountLine.shown c.in-Some.main in
+    let reads = c.in-Some.ensures {u = tt} in
+    let of_record = subst (λ found. IsOrderOf main (before ++ cons_option found rest) c.args.order.now)
+    (sym reads) is in
+    grown-has main format (g.T.Making.make c.args.making.now)
+    (g.met.T.Making.is_making.named c.args.making.now) (main.read c.args.line.now) m
+    (lines_of c.args.grown.now.text) reads
+    (sym (c.is_known-is_known.ensures before rest of_record grown) ∙ c.if-is_known.true)
+
+pub returns-then-is_known-clause-grown : goal.returns-then-is_known-clause-grown
+returns-then-is_known-clause-grown g c = λ before rest is grown.
+    let main = g.M.TableRecord.format in
+    let format = g.H.TableRecord.format in
+    let m = g.P.AccountLine.shown c.in-Some.main in
+    let old = c.args.grown.now in
+    let new : Grown = record { text = old.text; there = old.there; place = old.place + 1 } in
+    let reads = c.in-Some.ensures {u = tt} in
+    let of_record = subst (λ found. IsOrderOf main (before ++ cons_option found rest) c.args.order.now)
+    (sym reads) is in
+    subst (λ found. IsGrown main format (before ++ option_to_list found) new) reads
+    (grown-known main format before m old new
+    (sym (grown.names (main.name m))
+    ∙ sym (c.is_known-is_known.ensures before rest of_record grown) ∙ c.if-is_known.true)
+    grown refl refl refl)
 
 pub returns-clause-lines : goal.returns-clause-lines
 returns-clause-lines g c =
     let main = g.M.TableRecord.format in
     let format = g.H.TableRecord.format in
     let make = g.T.Making.make c.args.making.now in
+    let m = g.P.AccountLine.shown c.in-Some.main in
     let old = c.args.grown.now in
-    let name = c.in-Some.name.now in
     let new : Grown = record {
-      text = c.append_line.new.text;
+      text = c.append_made.new.text;
       there = old.there;
-      added = c.add.new.self;
+      place = old.place + 1;
     } in
-    let reads = sym c.in-Some-2.is ∙ c.in_ok-main.ensures.found in
+    let reads = c.in-Some.ensures {u = tt} in
+    on_ok_weaker c.append_made.result
+    (λ appended before rest is grown.
+    let of_record = subst (λ found. IsOrderOf main (before ++ cons_option found rest) c.args.order.now)
+    (sym reads) is in
     grown-more main format make (g.met.T.Making.is_making.named c.args.making.now)
-    g.met.T.Making.is_making.no_blank g.met.H.TableRecord.is_line_format.same c.in-Some-2.main
-    (made-written format make (main.read c.args.line.now) c.in-Some-2.main reads c.requires.written) old new
-    (c.in_ok-append_line.ensures.appended
-    ∙ ap (λ line. file_bytes (with_line line (lines_of old.text)))
-    (c.as_slice.ensures ∙ c.in_ok-text.ensures ∙ ap format.print c.in_ok-made.ensures))
-    (main.read c.args.line.now) name reads c.in-Some.ensures
-    (c.requires.grown.names name
-    ∙ second-false (is_some (told old.there name)) (is_some (told old.added name))
-    (sym c.has.ensures ∙ c.if-has.false)
-    ∙ sym c.has-else-has.ensures ∙ c.if-has-2.false)
+    g.met.T.Making.is_making.no_blank g.met.H.TableRecord.is_line_format.same m
+    (made-written format make (main.read c.args.line.now) m reads c.requires.written) old new
+    appended (main.read c.args.line.now) reads
+    (sym (c.is_known-is_known.ensures before rest of_record grown) ∙ c.if-is_known.false))
+    c.append_made.ensures
 
 pub returns-clause-grown : goal.returns-clause-grown
 returns-clause-grown g c =
     let main = g.M.TableRecord.format in
     let format = g.H.TableRecord.format in
     let make = g.T.Making.make c.args.making.now in
+    let m = g.P.AccountLine.shown c.in-Some.main in
     let old = c.args.grown.now in
-    let name = c.in-Some.name.now in
     let new : Grown = record {
-      text = c.append_line.new.text;
+      text = c.append_made.new.text;
       there = old.there;
-      added = c.add.new.self;
+      place = old.place + 1;
     } in
-    let reads = sym c.in-Some-2.is ∙ c.in_ok-main.ensures.found in
-    more-grown main format make (g.met.T.Making.is_making.named c.args.making.now)
-    g.met.T.Making.is_making.no_blank g.met.H.TableRecord.is_line_format.same c.in-Some-2.main
-    (made-written format make (main.read c.args.line.now) c.in-Some-2.main reads c.requires.written) old new
-    (c.in_ok-append_line.ensures.appended
-    ∙ ap (λ line. file_bytes (with_line line (lines_of old.text)))
-    (c.as_slice.ensures ∙ c.in_ok-text.ensures ∙ ap format.print c.in_ok-made.ensures))
-    name (name-found main (main.read c.args.line.now) c.in-Some-2.main name reads c.in-Some.ensures) c.requires.grown
-    (sym c.has-else-has.ensures ∙ c.if-has-2.false) refl c.in_ok-add.ensures
+    let reads = c.in-Some.ensures {u = tt} in
+    on_ok_weaker c.append_made.result
+    (λ appended before rest is grown.
+    subst (λ found. IsGrown main format (before ++ option_to_list found) new) reads
+    (more-grown main format make (g.met.T.Making.is_making.named c.args.making.now)
+    g.met.T.Making.is_making.no_blank g.met.H.TableRecord.is_line_format.same m
+    (made-written format make (main.read c.args.line.now) m reads c.requires.written) old new
+    appended before grown refl refl))
+    c.append_made.ensures

@@ -10,7 +10,7 @@ use Rattle.check_reports.proofs.DecisionLemmas.{groups-convert, script-decides}
 use Rattle.check_reports.proofs.pwconv.grpconv.Goals as goal
 
 pub gathered-requires : goal.gathered-requires
-gathered-requires c = (grpconv-written c.args.files.now).gshadow
+gathered-requires c = λ k. ((refl, tt), (grpconv-written c.args.files.now).gshadow)
 
 pub returns : goal.returns
 returns c =

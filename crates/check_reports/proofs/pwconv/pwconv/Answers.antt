@@ -15,15 +15,17 @@ use Rattle.check_reports.proofs.GatheredLemmas.{user-edits, user_edits}
 use Rattle.check_reports.proofs.pwconv.pwconv.Goals as goal
 
 pub gathered-requires : goal.gathered-requires
-gathered-requires c =
+gathered-requires c = λ k.
     let files = c.args.files.now in
     let settings = c.requires.held.settings in
-    let held = c.requires.held.held in
-    subst (λ edits. AllByRecursion (IsWrittenEdit shadow_format) edits)
-    (sym (user-edits settings c.args.day c.value.result c.value-2.result c.value-3.result
-    (passwd_records files) (c.value.ensures settings held) (c.value-2.ensures settings held)
-    (c.value-3.ensures settings held)))
-    (pwconv-written files settings c.args.day (omega (arith, c.requires.in_time))).shadow
+    let held = c.requires.held.held in (
+      (refl, tt),
+      subst (λ edits. AllByRecursion (IsWrittenEdit shadow_format) edits)
+          (sym (user-edits settings c.args.day c.value.result c.value-2.result c.value-3.result
+          (passwd_records files) (c.value.ensures settings held) (c.value-2.ensures settings held)
+          (c.value-3.ensures settings held)))
+          (pwconv-written files settings c.args.day (omega (arith, c.requires.in_time))).shadow,
+    )
 
 pub returns : goal.returns
 returns c =

@@ -1,6 +1,7 @@
 use Rattle.std.proofs.Common.{◌≡◌, inl, inr, sym, subst}
 use Rattle.memory_folder.specs.declared.memory.MemoryFolder.{MemoryFolder}
 use Rattle.memory_folder.specs.Memory.{past_of}
+use Rattle.account_model.specs.PlanWords.{command_words}
 use Rattle.account_model.proofs.AsksLaws.{request_or_fault}
 use Rattle.rehearsal.specs.Alone.{IsLawful}
 use Rattle.rehearsal.proofs.AloneLemmas.{faulty-undecided, ran-lawful, ran-step, unsupplied-undecided}
@@ -22,7 +23,7 @@ returns-clause-lawful g c =
 pub returns-clause-asks : goal.returns-clause-asks
 returns-clause-asks g c = λ decided. elim (request_or_fault c.args.words.now) [
   | inl asked ↦ asked
-  | inr found ↦ absurd (faulty-undecided _ c.args.words.now found.0 _ _ _
+  | inr found ↦ absurd (faulty-undecided _ (command_words c.args.words.now) found.0 _ _ _
       (c.run_suite.ensures.syntax found.0 found.1).3 decided)
 ]
 

@@ -2,7 +2,7 @@ use Rattle.std.proofs.Common.{◌∙◌, sym, ap, subst}
 use Rattle.acct_text.specs.Files.{table_of}
 use Rattle.account_model.specs.UsermodRanges.{change_in}
 use Rattle.account_model.specs.Written.{IsNameField}
-use Rattle.user_changes.specs.Ranges.{change_of, owner_by, owner_of, range_table, ranges_asked}
+use Rattle.user_changes.specs.Ranges.{owner_by, owner_of, range_table, ranges_asked}
 use Rattle.user_changes.proofs.lacked.user_ranges.Goals as goal
 
 pub leave_held-requires : goal.leave_held-requires

@@ -11,8 +11,7 @@ invariant-lines g l =
     let format = g.M.TableRecord.format in
     record {
       taken : HaveTaken (lines_in l.main) l.left;
-      so_far : IsOrderOf format (records_of format taken.done)
-          (record { names = l.names; count = l.count });
+      so_far : IsOrderOf format (records_of format taken.done) l.order;
     }
 
 abbrev pub decreases-lines : goal.decreases-lines

@@ -24,14 +24,13 @@ returns-in_ok-decision-in-Ok c =
     -- the request is that of the command, with its whole input, and the day is its day
     let told = λ (request : Request) (input : List ℕ) (day : ℕ). c.in_ok-decision-in-Ok.decision
     ≡ command_decision request input day files (settings_of text) in
-    if-ok (λ decided shown. decides-on c.args.asked.now files defs sound
-    c.requires.small
-    c.in_ok-decision-in-Ok.decision
+    if-ok (λ decided is. subst (λ (one : Decided). DecidesOn asked files defs one) (sym is)
+    (decides-on asked files defs sound c.requires.small c.in_ok-decision-in-Ok.decision
     (subst (λ (day : ℕ). told asked.request asked.command.input day) c.day-day.ensures.value
     (subst (λ (input : List ℕ). told asked.request input c.day-day.result) c.input-input.ensures.value
     (subst (λ (request : Request). told request c.input-input.result.now c.day-day.result)
     c.parsed-parsed.ensures
-    (c.in_ok-decision-in-Ok.ensures (settings_of text) c.in-Ok.ensures.settings)))) decided shown)
+    (c.in_ok-decision-in-Ok.ensures (settings_of text) c.in-Ok.ensures.settings))))))
     c.answer_to.result c.answer_to.ensures
 
 pub returns-in-Err : goal.returns-in-Err
