@@ -41,6 +41,7 @@ module _ (news : List Line) (passed : ℕ) (line : Line) where
       ∙ append_assoc before (lines_until line found left) _
       ∙ ap (λ behind. before ++ (lines_until line found left ++ lines_between rest behind))
       (left-behind found)
-      ∙ ap (λ at. before ++ (lines_until line at left ++ lines_between rest (lines_left at left))) is
+      ∙ ap (λ at. before
+      ++ (lines_until line at left ++ lines_between rest (lines_left at left))) is
       ∙ ap (λ lines. before ++ lines_between lines left) (sym first)
       ∙ so_far

@@ -95,7 +95,8 @@ pub point-more :
     (lines : List SomeLine) (point : Point) (line : SomeLine)
     → point.place < length lines
     → IsPointOf (seen_diff lines) point
-    → IsPointOf (seen_diff lines) (point_behind point (seen_diff_line (get_or lines point.place line)))
+    → IsPointOf (seen_diff lines)
+    (point_behind point (seen_diff_line (get_or lines point.place line)))
 point-more lines point line inside is =
     let at = point.place in
     let one = seen_diff_line (get_or lines at line) in

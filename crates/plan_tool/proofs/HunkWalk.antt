@@ -94,7 +94,8 @@ module _ (lines : List DiffLine) where
       (range-more start (here - start)
       ∙ ap (λ last. range_with_len start (here - start) ++ last ∷ []) at)
       ∙ ap (flat_map (hunk_text lines))
-      (sym (continued-onto (range_with_len start (here - start)) here (pieces_from (here + 1) left)))
+      (sym (continued-onto (range_with_len start (here - start)) here
+      (pieces_from (here + 1) left)))
       ∙ ap (λ pieces. flat_map (hunk_text lines)
       (continued (range_with_len start (here - start)) pieces)) (sym split)
       ∙ ap (λ count. flat_map (hunk_text lines)
@@ -117,11 +118,13 @@ module _ (lines : List DiffLine) where
       (continued (range_with_len (here + 1) count) (pieces_from (here + 1) left))) none
       ∙ ap (λ pieces. hunk_text lines front ++ flat_map (hunk_text lines) pieces)
       (fresh (here + 1) left)
-      ∙ ap (λ first. hunk_text lines first ++ flat_map (hunk_text lines) (pieces_from (here + 1) left))
+      ∙ ap (λ first. hunk_text lines first
+      ++ flat_map (hunk_text lines) (pieces_from (here + 1) left))
       (sym (append-nil front))
       ∙ sym (flat_map-cons (hunk_text lines) (front ++ []) (pieces_from (here + 1) left))
       ∙ ap (λ pieces. flat_map (hunk_text lines) (continued front pieces)) (sym split)
-      ∙ ap (λ count. flat_map (hunk_text lines) (continued front (pieces_from here count))) (sym more)
+      ∙ ap (λ count. flat_map (hunk_text lines) (continued front (pieces_from here count)))
+      (sym more)
 
   -- and so does the end
   pub last-hunk :
@@ -134,4 +137,5 @@ module _ (lines : List DiffLine) where
       ap (hunk_text lines) (sym (append-nil front))
       ∙ sym (append-nil (hunk_text lines (front ++ [])))
       ∙ sym (flat_map-cons (hunk_text lines) (front ++ []) [])
-      ∙ ap (λ count. flat_map (hunk_text lines) (continued front (pieces_from here count))) (sym none)
+      ∙ ap (λ count. flat_map (hunk_text lines) (continued front (pieces_from here count)))
+      (sym none)

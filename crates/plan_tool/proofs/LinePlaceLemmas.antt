@@ -19,7 +19,8 @@ use Rattle.plan_tool.specs.SeenDiff.{Knows, reaches}
 module _ (lines : List Line) (line : Line) (old new : Bytes → Option ℕ) where
   pub known-more :
       Knows lines old
-      → ((text : Bytes) → new text ≡ (if bytes_eq line.text text then Some (length lines) else old text))
+      → ((text : Bytes)
+      → new text ≡ (if bytes_eq line.text text then Some (length lines) else old text))
       → Knows (lines ++ line ∷ []) new
   known-more known noted = λ place one is.
       let within = slice_get_within (lines ++ line ∷ []) place one is in

@@ -35,7 +35,8 @@ texts-more text see xs at x below =
     ap (λ items. flat_map text (map see items)) (take_more xs at x below)
     ∙ ap (flat_map text) (map-append see (take at xs) (get_or xs at x ∷ []))
     ∙ flat_map-append text (map see (take at xs)) (see (get_or xs at x) ∷ [])
-    ∙ ap (λ last. flat_map text (map see (take at xs)) ++ last) (append-nil (text (see (get_or xs at x))))
+    ∙ ap (λ last. flat_map text (map see (take at xs)) ++ last)
+    (append-nil (text (see (get_or xs at x))))
 
 -- what is given of one item
 given-one :

@@ -19,7 +19,8 @@ module _ {R : Type 0} (format : Format R) (object : R → Bytes) where
 
   pub objects-are :
       (lines : List DiffLine)
-      → flat_map (objects_of format object) lines ≡ map object (filter_map (new_record format) lines)
+      → flat_map (objects_of format object) lines
+      ≡ map object (filter_map (new_record format) lines)
   objects-are [] = refl
   objects-are (line ∷ rest) =
       flat_map-cons (objects_of format object) line rest

@@ -76,7 +76,8 @@ fn all_lines<'a>(alloc: Global, text: &'a [u8]) -> Result<Vec<FileLine<'a>>, All
 
 // The place of the first line with the same bytes as this one.
 fn place_of(lines: &[FileLine<'_>], line: FileLine<'_>) -> Option<usize>
-    ensures { result ≡ position (λ other. same_line (seen_line line.entry) (seen_line other)) lines.now }
+    ensures { result
+        ≡ position (λ other. same_line (seen_line line.entry) (seen_line other)) lines.now }
 {
     lines.iter().position(|other| is_same(line, *other))
 }
@@ -97,8 +98,8 @@ fn push_until<'a>(
     left: &[FileLine<'a>],
 ) -> Result<(), AllocError>
     requires { IfSome found (λ place. place ≤ length left.now) }
-    ensures { OnOk result (seen_diff lines.new.items
-        ≡ seen_diff lines.old.items ++ lines_until (seen_line old.entry) found (seen_lines left.now)) }
+    ensures { OnOk result (seen_diff lines.new.items ≡ seen_diff lines.old.items
+        ++ lines_until (seen_line old.entry) found (seen_lines left.now)) }
 {
     match found {
         Some(place) => {

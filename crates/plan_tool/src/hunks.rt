@@ -138,7 +138,8 @@ fn push_hunk(
     requires start { IsPointOf (seen_diff lines.now) start }
     requires end { IsPointOf (seen_diff lines.now) end }
     requires ordered { start.place ≤ end.place }
-    ensures { OnOk result (out.new ≡ out.old ++ hunk_between (seen_diff lines.now) start.place end.place) }
+    ensures { OnOk result (out.new
+        ≡ out.old ++ hunk_between (seen_diff lines.now) start.place end.place) }
 {
     if start.place == end.place {
         return Ok(());

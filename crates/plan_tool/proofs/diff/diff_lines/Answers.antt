@@ -12,7 +12,8 @@ use Rattle.plan_tool.proofs.diff.diff_lines.Goals as goal
 seen_left :
     (items : List FileLine) (passed : ℕ)
     → seen_lines (take (length items - passed) (drop passed items)) ≡ drop passed (seen_lines items)
-seen_left items passed = ap seen_lines (take_rest items passed) ∙ sym (drop-map seen_line passed items)
+seen_left items passed =
+    ap seen_lines (take_rest items passed) ∙ sym (drop-map seen_line passed items)
 
 pub olds-preserved : goal.olds-preserved
 olds-preserved c =

@@ -28,7 +28,8 @@ returns c =
     omega (arith, c.requires.ordered, c.if-start-end.false) in
     let count = end.place - start.place in
     let texts = flat_map diff_line_text (seen_diff (take count (drop start.place lines))) in
-    let from : record { old = start.old; new = start.new } ≡ point_at (seen_diff lines) start.place =
+    let from : record { old = start.old; new = start.new }
+    ≡ point_at (seen_diff lines) start.place =
     λ i. record { old = c.requires.start.old i; new = c.requires.start.new i } in
     let to : record { old = end.old; new = end.new } ≡ point_at (seen_diff lines) end.place =
     λ i. record { old = c.requires.end.old i; new = c.requires.end.new i } in

@@ -30,7 +30,8 @@ lines-preserved c =
         told = rw (w.out-is, w.start-is, w.here-is, behind)
             (ap (λ text. text ++ hunks_from seen (here + 1) (here + 1)) w.in_ok-push_hunk.ensures
             ∙ append_assoc out (hunk_between seen start here) _
-            ∙ ap (λ text. out ++ text) (hunk-ends seen start here inside (sym c.is_shown.ensures ∙ w.if-not-is_shown.true))
+            ∙ ap (λ text. out ++ text)
+            (hunk-ends seen start here inside (sym c.is_shown.ensures ∙ w.if-not-is_shown.true))
             ∙ is.told);
       }
       | else-not-is_shown w ↦ record {
