@@ -113,7 +113,8 @@ impl<'a> Written<'a> {
             err,
         } = self;
         let status = CARRIED_OUT;
-        decide_change(alloc, first, &mut tables, Output { status, out, err })
+        let output = Output { status, out, err };
+        decide_change(alloc, first, &mut tables, TouchedTables::ALL, output)
     }
 }
 
