@@ -11,9 +11,10 @@ ghost use Rattle.line_edits.specs.ShadowChanges.{shadow_becomes};
 ghost use Rattle.line_edits.specs.SubidChanges.{subid_becomes};
 ghost use Rattle.table.specs.Standing.{IsTaken};
 ghost use Rattle.table.specs.TableEdits.{AreWritten, table_by};
-ghost use Rattle.carried_tables.specs.Changes.{StandWhere};
+ghost use Rattle.carried_tables.specs.Changes.{AreLeft, StandWhere};
 
-use crate::{IdTable, RangeTable};
+use crate::touched_tables::take_edited;
+use crate::{IdTable, RangeTable, TouchedTables};
 use acct_lines::{GroupRecord, GshadowRecord, PasswdRecord, ShadowRecord, SubidRecord};
 use acct_text::{Bytes, Files, NewTables, Tab};
 use line_edits::{Edit, GroupChange, GshadowChange, PasswdChange, ShadowChange, SubidChange};
@@ -185,25 +186,31 @@ impl<'a> CarriedTables<'a> {
     }
 
     /// Takes the tables out that differ from the first ones, in the fixed order, in a pass over each that
-    /// has an index. What a table holds is let go before the bytes of the next are made. At `AllocError`
+    /// is edited. What a table holds is let go before the bytes of the next are made. At `AllocError`
     /// some of the tables are gone.
-    pub fn take_changes(&mut self, alloc: Global, first: &Files) -> Result<NewTables, AllocError>
-        requires { StandWhere first.now self.old }
+    pub fn take_changes(
+        &mut self,
+        alloc: Global,
+        first: &Files,
+        edited: TouchedTables,
+    ) -> Result<NewTables, AllocError>
+        requires stand { StandWhere first.now self.old }
+        requires left { AreLeft edited first.now self.old }
         ensures { IfOk result (λ tables.
             tables ≡ changed_tables (table_of first.now) (table_of self.old)) }
     {
         let mut tables = NewTables::none(alloc);
-        let passwd = self.passwd.take_change(&first.passwd)?;
+        let passwd = self.passwd.take_edited(edited.passwd, &first.passwd)?;
         push_new(&mut tables, Tab::Passwd, &first.passwd, passwd)?;
-        let shadow = self.shadow.take_change(&first.shadow)?;
+        let shadow = take_edited(&mut self.shadow, edited.shadow, &first.shadow)?;
         push_new(&mut tables, Tab::Shadow, &first.shadow, shadow)?;
-        let group = self.group.take_change(&first.group)?;
+        let group = self.group.take_edited(edited.group, &first.group)?;
         push_new(&mut tables, Tab::Group, &first.group, group)?;
-        let gshadow = self.gshadow.take_change(&first.gshadow)?;
+        let gshadow = take_edited(&mut self.gshadow, edited.gshadow, &first.gshadow)?;
         push_new(&mut tables, Tab::Gshadow, &first.gshadow, gshadow)?;
-        let subuid = self.subuid.take_change(&first.subuid)?;
+        let subuid = self.subuid.take_edited(edited.subuid, &first.subuid)?;
         push_new(&mut tables, Tab::Subuid, &first.subuid, subuid)?;
-        let subgid = self.subgid.take_change(&first.subgid)?;
+        let subgid = self.subgid.take_edited(edited.subgid, &first.subgid)?;
         push_new(&mut tables, Tab::Subgid, &first.subgid, subgid)?;
         Ok(tables)
     }

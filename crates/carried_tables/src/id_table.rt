@@ -14,6 +14,7 @@ ghost use Rattle.table.specs.TableEdits.{AreWritten, table_by};
 use crate::IdsInUse;
 use crate::ids::{IdRecord, OfId, Renumbering, listed_ids, used_ids};
 use crate::kept_ids::KeptIds;
+use crate::touched_tables::take_edited;
 use acct_text::Bytes;
 use line_edits::Edit;
 use std::alloc::{AllocError, Global};
@@ -69,13 +70,18 @@ impl<'a, R: IdRecord + Drop> IdTable<'a, R> {
         self.gather(alloc)
     }
 
-    /// Takes the bytes of the file out, and lets the rest go; none where the file is lent still and the
-    /// same as this one. They are made in a pass over the lines where the table has an index.
-    pub(crate) fn take_change(&mut self, first: &Option<Bytes>) -> Result<Option<Bytes>, AllocError>
+    /// Takes the bytes of the file out, and lets the rest go; none where it isn't edited, or is lent still
+    /// and the same as this one. They are made in a pass over the lines where the table has an index.
+    pub(crate) fn take_edited(
+        &mut self,
+        is_edited: bool,
+        first: &Option<Bytes>,
+    ) -> Result<Option<Bytes>, AllocError>
+        requires { is_edited ≡ false → self.old ≡ first.now }
         ensures { IfOk result (IsTaken first.now self.old) }
     {
         self.ids = None;
-        self.table.take_change(first)
+        take_edited(&mut self.table, is_edited, first)
     }
 
     /// The table, for what doesn't ask for IDs.

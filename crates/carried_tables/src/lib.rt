@@ -5,7 +5,7 @@
 //! over these; who asks much of a table has an index made of it: each is a `Table` of the crate `table`,
 //! those of users and of groups with the IDs that are used (`id_table`, `kept_ids`), and those of
 //! subordinate IDs with the numbers that their ranges take (`range_table`). In the end the tables that
-//! differ from the files are taken out.
+//! differ from the files are taken out, where they were edited (`touched_tables`).
 //!
 //! `ids` gathers the IDs that are used in a file; `in_use` is how they are answered. A `RangeTable` decides
 //! how edits of ranges are made. `left_ranges` passes by those that leave the whole file. Without an index
@@ -30,6 +30,7 @@ mod range_edits;
 mod range_numbers;
 mod range_table;
 mod removed_owner;
+mod touched_tables;
 
 pub use carried_tables::CarriedTables;
 pub use id_table::IdTable;
@@ -37,3 +38,4 @@ pub use ids::{IdRecord, Renumbering, used_ids};
 pub use in_use::IdsInUse;
 pub use range_edits::edited_ranges;
 pub use range_table::RangeTable;
+pub use touched_tables::TouchedTables;

@@ -1,6 +1,6 @@
 // A table of subordinate IDs that is carried from command to command (useradd(8), userdel(8),
 // usermod(8), `-l`; subuid(5), subgid(5)).
-ghost use Rattle.std.specs.Prelude.{◌≡◌, ◌<◌, None, Some, is_some, IfOk, MatchOption, OnOk};
+ghost use Rattle.std.specs.Prelude.{◌≡◌, false, ◌<◌, None, Some, is_some, IfOk, MatchOption, OnOk};
 ghost use Rattle.std.specs.List.{list_any};
 ghost use Rattle.account_model.specs.Records.{subid_format};
 ghost use Rattle.account_model.specs.Tables.{table_records};
@@ -12,6 +12,7 @@ ghost use Rattle.line_edits.specs.SubidChanges.{subid_becomes};
 
 use crate::left_ranges::open_edits;
 use crate::range_edits::edited_ranges;
+use crate::touched_tables::take_edited;
 use acct_lines::SubidRecord;
 use acct_text::Bytes;
 use itoa::Buffer;
@@ -76,13 +77,18 @@ impl<'a> RangeTable<'a> {
         self.wants_index = true;
     }
 
-    /// Takes the bytes of the file out, and lets the rest go; none where the file is lent still and the
-    /// same as this one. They are made in a pass over the lines where the table has an index.
-    pub(crate) fn take_change(&mut self, first: &Option<Bytes>) -> Result<Option<Bytes>, AllocError>
+    /// Takes the bytes of the file out, and lets the rest go; none where it isn't edited, or is lent still
+    /// and the same as this one. They are made in a pass over the lines where the table has an index.
+    pub(crate) fn take_edited(
+        &mut self,
+        is_edited: bool,
+        first: &Option<Bytes>,
+    ) -> Result<Option<Bytes>, AllocError>
+        requires { is_edited ≡ false → self.old ≡ first.now }
         ensures { IfOk result (IsTaken first.now self.old) }
     {
         self.numbers = None;
-        self.table.take_change(first)
+        take_edited(&mut self.table, is_edited, first)
     }
 
     /// Whether there is a file.

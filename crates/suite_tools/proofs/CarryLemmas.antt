@@ -1,10 +1,9 @@
 -- Claim: once an action of a tool is carried out on the files by itself, each table stands where it stood,
--- and the tables that differ with what is printed are what the tool decides (`carried-decides`). Way: what
--- is left and printed is what the tool made (`made-stands`). And what a line carries out is told by the
--- answer of its tool on these tables (`of-action`), a fault as it came (`fault-told`).
-use Rattle.std.proofs.Common.{◌≡◌, ℕ, List, [], ap, refl, subst, sym}
-use Rattle.std.specs.Prelude.{Result, Ok, Err, IsErr, is_some}
-use Rattle.std.specs.Result.{IsErrAnd}
+-- and the tables that differ with what is printed are what the tool decides (`carried-decides`); a table without edits is
+-- as it was (`left-by`). Way: what is left and printed is what the tool made (`made-stands`, `made-left`).
+use Rattle.std.proofs.Common.{◌≡◌, ◌∙◌, ℕ, Bool, true, false, not, List, [], ◌∷◌, length, map, ap, refl, subst, sym}
+use Rattle.std.specs.Prelude.{◌==◌, Option, Result, Ok, Err, is_some}
+use Rattle.acct_text.specs.declared.Tab.TheVariants.{Passwd, Shadow, Group, Gshadow, Subuid, Subgid}
 use Rattle.acct_text.specs.declared.files.Files.{Files}
 use Rattle.acct_text.specs.ChangedTables.{changed_tables}
 use Rattle.acct_text.specs.Files.{table_of}
@@ -12,22 +11,17 @@ use Rattle.account_model.specs.declared.refusal.Refusal.{Refusal}
 use Rattle.account_model.specs.declared.tool.Tool.{Tool}
 use Rattle.account_model.specs.Action.{Action, Made, outcome_of}
 use Rattle.account_model.specs.Batch.{Written, written_by}
-use Rattle.account_model.specs.Change.{action_of}
-use Rattle.account_model.specs.Request.{Request}
-use Rattle.account_model.specs.Settings.{Setting}
+use Rattle.account_model.specs.Edits.{Edit}
+use Rattle.account_model.specs.Format.{Format}
+use Rattle.account_model.specs.Tables.{Script, files_after, table_after}
+use Rattle.account_model.proofs.NoEdits.{table-stays}
 use Rattle.account_model.proofs.BatchLaws.{outcome-made}
 use Rattle.account_model.proofs.DeedLaws.{files-stand}
 use Rattle.tool_answers.specs.Decisions.{Decides, decision_by, decision_of, written_decision}
 use Rattle.tool_answers.specs.declared.decision.Output.{Output}
-use Rattle.tool_answers.specs.declared.tool_fault.ToolFault.{ToolFault}
-use Rattle.login_defs.specs.declared.defs.Defs.{Defs}
-use Rattle.login_defs.specs.Held.{HasSettings}
 use Rattle.table_edits.specs.Deciding.{IsCarriedOut, written_with}
-use Rattle.table_edits.specs.declared.script.Script.{Script}
-use Rattle.carried_tables.specs.Changes.{StandWhere}
-use Rattle.suite_tools.specs.Carrying.{AnswersUnder, IsOfAction}
-use Rattle.suite_tools.specs.declared.answer.Answered.{Answered}
-use Rattle.suite_tools.specs.declared.answer.Answered.TheVariants.{Edits}
+use Rattle.carried_tables.specs.Changes.{AreLeft, StandWhere}
+use Rattle.carried_tables.specs.declared.touched_tables.TouchedTables.{TouchedTables}
 
 -- what a tool made has each table where it stood
 pub made-stands :
@@ -38,13 +32,62 @@ made-stands action files made is table =
     subst (λ (one : Made). is_some (table_of one.files table) ≡ is_some (table_of files table))
     (outcome-made action files made is).makes (files-stand action.script files table)
 
+-- and its tables are those after the edits
+made-left :
+    (action : Action) (files : Files) (made : Made)
+    → outcome_of action files ≡ Ok made
+    → made.files ≡ files_after action.script files
+made-left action files made is =
+    sym (ap (λ (one : Made). one.files) (outcome-made action files made is).makes)
+
+-- so a table without edits is as it was
+pub left-by :
+    (script edits : Script) (touched : TouchedTables) (first last : Files)
+    → ((files : Files) → AreLeft touched files (files_after script files))
+    → script ≡ edits
+    → last ≡ files_after edits first
+    → AreLeft touched first last
+left-by script edits touched first last left same is =
+    subst (λ (files : Files). AreLeft touched first files)
+    (ap (λ (one : Script). files_after one first) same ∙ sym is) (left first)
+
+-- where all may be edited, nothing is said of any
+pub all-touched :
+    (first last : Files)
+    → AreLeft (record {
+      passwd = true;
+      shadow = true;
+      group = true;
+      gshadow = true;
+      subuid = true;
+      subgid = true;
+    }) first last
+all-touched first last Passwd none = absurd cc
+all-touched first last Shadow none = absurd cc
+all-touched first last Group none = absurd cc
+all-touched first last Gshadow none = absurd cc
+all-touched first last Subuid none = absurd cc
+all-touched first last Subgid none = absurd cc
+
+-- by whether there are edits
+pub left-table :
+    {R E : Type 0} (format : Format R) (seen : E → Edit R) (edits : List E) (touched : Bool)
+    (bytes : Option (List ℕ))
+    → touched ≡ not (length edits == 0)
+    → touched ≡ false
+    → table_after format (map seen edits) bytes ≡ bytes
+left-table format seen [] touched bytes is none = table-stays format bytes
+left-table format seen (edit ∷ edits) touched bytes is none =
+    let some : true ≡ false = sym is ∙ none in absurd cc
+
 module _ (tool : Tool) (action : Action) (first old last : Files) (output : Output)
     (are : old ≡ first)
     (carried : IsCarriedOut tool (outcome_of action old) old last (Ok output)) where
-  -- what is left has each table where the files have it, and the tables that differ, with what is
-  -- printed, are the tool's decision
+  -- what is left has each table where the files have it, and is what the edits leave; and the tables that differ, with
+  -- what is printed, are the tool's decision
   pub carried-decides :
       StandWhere first last
+      × (last ≡ files_after action.script first)
       × Decides tool first (outcome_of action first)
       (decision_by (changed_tables (table_of first) (table_of last)) output)
   carried-decides = by (outcome_of action first) refl
@@ -56,6 +99,7 @@ module _ (tool : Tool) (action : Action) (first old last : Files) (output : Outp
           → outcome_of action first ≡ made
           → IsCarriedOut tool made first last (Ok output)
           → StandWhere first last
+          × (last ≡ files_after action.script first)
           × (decision_by (changed_tables (table_of first) (table_of last)) output
           ≡ decision_of tool first made)
       by (Err refusal) is left = absurd (cc left)
@@ -63,32 +107,7 @@ module _ (tool : Tool) (action : Action) (first old last : Files) (output : Outp
           let same : written_by tool made ≡ written_with last output = cc in (
             subst (λ (one : Written). StandWhere first one.files) same
                 (made-stands action first made is),
+            subst (λ (one : Written). one.files ≡ files_after action.script first) same
+                (made-left action first made is),
             ap (written_decision first) (sym same),
           )
-
--- the script and the output that are answered on these tables are of the action on them
-pub of-action :
-    (defs : Defs) (day : ℕ) (request : Request) (files tables seen : Files) (answered : Answered)
-    (script : Script) (output : Output) (settings : List Setting)
-    → HasSettings defs settings
-    → seen ≡ tables
-    → answered ≡ Edits script output
-    → AnswersUnder defs day request [] files seen (Ok answered)
-    → IsOfAction request.tool script output (action_of request [] day tables settings)
-of-action defs day request files tables seen answered script output settings holds are is answers =
-    let edits = subst (λ (one : Answered). AnswersUnder defs day request [] files seen (Ok one)) is
-    answers in
-    subst (λ (one : Files). IsOfAction request.tool script output
-    (action_of request [] day one settings)) are (edits.1 settings holds)
-
--- a fault is told as it came
-pub fault-told :
-    (tool : Tool) (outcome : Result Made Refusal) (old new : Files) (fault : ToolFault)
-    (result : Result Output ToolFault)
-    → IsErr result
-    → IsErrAnd result (λ found. found ≡ fault)
-    → IsCarriedOut tool outcome old new (Err fault)
-    → IsCarriedOut tool outcome old new result
-fault-told tool outcome old new fault (Ok output) is_err same told = absurd (cc is_err)
-fault-told tool outcome old new fault (Err found) is_err same told =
-    subst (λ (one : ToolFault). IsCarriedOut tool outcome old new (Err one)) (sym same) told

@@ -1,3 +1,4 @@
+pub mod AnswerLemmas
 pub mod CarryLemmas
 pub mod DecideLemmas
 pub mod LinesLemmas

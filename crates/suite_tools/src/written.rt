@@ -13,7 +13,7 @@ use crate::carry::carry_out;
 use crate::change::decide_change;
 use account_model::{Refusal, Tool};
 use acct_text::{Bytes, Files};
-use carried_tables::CarriedTables;
+use carried_tables::{CarriedTables, TouchedTables};
 use command_values::Asked;
 use login_defs::Defs;
 use option_words::LineRequest;
@@ -113,7 +113,8 @@ impl<'a> Written<'a> {
             err,
         } = self;
         let status = CARRIED_OUT;
-        decide_change(alloc, first, &mut tables, Output { status, out, err })
+        let output = Output { status, out, err };
+        decide_change(alloc, first, &mut tables, TouchedTables::ALL, output)
     }
 }
 

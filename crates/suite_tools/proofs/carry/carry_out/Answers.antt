@@ -2,7 +2,7 @@
 use Rattle.std.proofs.Common.{[]}
 use Rattle.account_model.specs.Action.{outcome_of}
 use Rattle.account_model.specs.Change.{action_of}
-use Rattle.suite_tools.proofs.CarryLemmas.{fault-told, of-action}
+use Rattle.suite_tools.proofs.AnswerLemmas.{fault-told, of-action}
 use Rattle.suite_tools.proofs.carry.carry_out.Goals as goal
 
 pub returns-in_err-carry_out-in-Edits : goal.returns-in_err-carry_out-in-Edits

@@ -1,5 +1,5 @@
 -- Table after table is pushed where it differs, in the fixed order; each stands where it stood.
-use Rattle.std.proofs.Common.{◌≡◌, [], ◌∷◌, List, sym, subst}
+use Rattle.std.proofs.Common.{◌≡◌, ◌∙◌, [], ◌∷◌, List, ap, sym, subst}
 use Rattle.acct_text.specs.declared.Tab.TheVariants.{Passwd, Shadow, Group, Gshadow, Subuid, Subgid}
 use Rattle.acct_text.specs.declared.files.Files.{Files}
 use Rattle.acct_text.specs.declared.new_tables.NewTable.{NewTable}
@@ -9,6 +9,30 @@ use Rattle.acct_text.specs.Tables.{all_tables}
 use Rattle.tool_answers.proofs.ListedTables.{AreListedBefore, all-listed, listed-on, none-listed}
 use Rattle.carried_tables.specs.Changes.{StandWhere}
 use Rattle.carried_tables.proofs.carried_tables.CarriedTables.take_changes.Goals as goal
+
+pub take_edited-requires : goal.take_edited-requires
+take_edited-requires c = λ none.
+    ap (λ (files : Files). files.passwd) c.self.view_is ∙ c.requires.left Passwd none
+
+pub take_edited-requires-2 : goal.take_edited-requires-2
+take_edited-requires-2 c = λ none.
+    ap (λ (files : Files). files.shadow) c.self.view_is ∙ c.requires.left Shadow none
+
+pub take_edited-requires-3 : goal.take_edited-requires-3
+take_edited-requires-3 c = λ none.
+    ap (λ (files : Files). files.group) c.self.view_is ∙ c.requires.left Group none
+
+pub take_edited-requires-4 : goal.take_edited-requires-4
+take_edited-requires-4 c = λ none.
+    ap (λ (files : Files). files.gshadow) c.self.view_is ∙ c.requires.left Gshadow none
+
+pub take_edited-requires-5 : goal.take_edited-requires-5
+take_edited-requires-5 c = λ none.
+    ap (λ (files : Files). files.subuid) c.self.view_is ∙ c.requires.left Subuid none
+
+pub take_edited-requires-6 : goal.take_edited-requires-6
+take_edited-requires-6 c = λ none.
+    ap (λ (files : Files). files.subgid) c.self.view_is ∙ c.requires.left Subgid none
 
 pub returns : goal.returns
 returns c =
@@ -23,7 +47,7 @@ returns c =
       subgid = c.self.inside.subgid;
     } in
     let new = table_of last in
-    let stand : StandWhere first last = subst (StandWhere first) (sym c.self.view_is) c.requires in
+    let stand : StandWhere first last = subst (StandWhere first) (sym c.self.view_is) c.requires.stand in
     let none = c.none-tables.result in
     let one = c.push_new.new.tables in
     let two = c.push_new-2.new.tables in
