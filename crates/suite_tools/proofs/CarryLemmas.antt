@@ -1,8 +1,9 @@
 -- Claim: once an action of a tool is carried out on the files by itself, each table stands where it stood,
 -- and the tables that differ with what is printed are what the tool decides (`carried-decides`); a table without edits is
 -- as it was (`left-by`). Way: what is left and printed is what the tool made (`made-stands`, `made-left`).
-use Rattle.std.proofs.Common.{◌≡◌, ◌∙◌, ℕ, Bool, true, false, not, List, [], ◌∷◌, length, map, ap, refl, subst, sym}
+use Rattle.std.proofs.Common.{◌≡◌, ◌∙◌, ℕ, Bool, true, false, not, List, [], ◌∷◌, length, map, ap, arith, refl, subst, sym}
 use Rattle.std.specs.Prelude.{◌==◌, Option, Result, Ok, Err, is_some}
+use Rattle.std.proofs.lemmas.Bool.{ne_eqb}
 use Rattle.acct_text.specs.declared.Tab.TheVariants.{Passwd, Shadow, Group, Gshadow, Subuid, Subgid}
 use Rattle.acct_text.specs.declared.files.Files.{Files}
 use Rattle.acct_text.specs.ChangedTables.{changed_tables}
@@ -78,7 +79,8 @@ pub left-table :
     → table_after format (map seen edits) bytes ≡ bytes
 left-table format seen [] touched bytes is none = table-stays format bytes
 left-table format seen (edit ∷ edits) touched bytes is none =
-    let some : true ≡ false = sym is ∙ none in absurd cc
+    let some = ne_eqb (length (edit ∷ edits)) 0 (λ same. omega (arith, same)) in
+    let both : true ≡ false = ap not (sym some) ∙ sym is ∙ none in absurd cc
 
 module _ (tool : Tool) (action : Action) (first old last : Files) (output : Output)
     (are : old ≡ first)
