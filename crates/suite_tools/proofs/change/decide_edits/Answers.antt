@@ -25,13 +25,13 @@ decide_change-requires-clause-left c =
     c.carry_out.new.tables c.touched_by.ensures of_action.1.0.edits
     (carried-decides c.args.tool of_action.0 c.args.files.now c.args.tables c.carry_out.new.tables
     c.args.output c.requires.are
-    (c.in-Ok.ensures c.args.tool of_action.0 c.args.output of_action.1.0 of_action.1.1)).1.0
+    (c.in-Ok.ensures c.args.tool of_action.0 c.args.output of_action.1.0 of_action.1.1)).1
 
 pub returns-in-Ok : goal.returns-in-Ok
 returns-in-Ok c = IfOk-weaker c.decide_change.result _ _ (λ decision is action of_action. is
     ∙ (carried-decides c.args.tool action c.args.files.now c.args.tables c.carry_out.new.tables
     c.args.output c.requires.are
-    (c.in-Ok.ensures c.args.tool action c.args.output of_action.0 of_action.1)).1.1)
+    (c.in-Ok.ensures c.args.tool action c.args.output of_action.0 of_action.1)).2)
     c.decide_change.ensures
 
 pub returns-in-Err-Refused : goal.returns-in-Err-Refused
