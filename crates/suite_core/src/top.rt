@@ -23,6 +23,9 @@ use suite_course::{refuse_words, run_request};
 /// whatever other sessions do in between, and the answer is the tool's on the files at the place of the
 /// command's lock.
 ///
+/// A report and a plan take no lock and change nothing. A plan has the status and the message of its
+/// command on the files at the place that it shows, and tells behind what that prints what would change.
+///
 /// A command that is alone, where no lock and no intent stands in its way and nothing outside fails,
 /// has no other answer than its tool's on the files of its entry, or that there was no memory.
 pub fn run_suite<F: Folder, S: Source, O: Sink, E: Sink, C: Clock>(

@@ -18,6 +18,7 @@ mod LeavesLemmas
 mod OpenLemmas
 mod SuccessLemmas
 mod PlaceLemmas
+mod PlanLemmas
 pub mod RanLemmas
 mod StagingSteps
 mod StreamsLemmas

@@ -41,6 +41,7 @@ use Rattle.suite_course.specs.Course.{AnsweredAs, Finished}
 use Rattle.suite_course.specs.Shows.{IsAlwaysSettled, Shows}
 use Rattle.suite_course.specs.Top.{Answered, ExtendsLawfully, HasRun, IfLawful, Ran, RunsOrNot}
 use Rattle.suite_course.proofs.PlaceLemmas.{shows-at}
+use Rattle.suite_course.proofs.PlanLemmas.{plans-exactly}
 use Rattle.suite_course.proofs.CompleteLemmas.{ran-complete}
 use Rattle.suite_course.proofs.FreeLemmas.{reports-freely}
 use Rattle.suite_course.proofs.LeavesLemmas.{leaves-alone}
@@ -138,6 +139,10 @@ module _ (asked : Question) (entry now : Moment) where
           (free-of runner past same answered is)
           (subst (λ (one : Question). Says one given given.outcome.cause) (sym same) says)
           answered.ended.due.shown answered.ended.drops_nothing;
+      plan_exact = λ deeds ours others lawful. plans-exactly deeds asked was.first past.history
+          runner.token given (free-of runner past same answered)
+          (answered-shows runner past same answered deeds was.first
+          (stays deeds ours others lawful)).shown;
       left = λ quiet. let left = answered.ended.left quiet in
           record { freed = left.freed; clean = left.clean };
       moved = answered.ended.moved;

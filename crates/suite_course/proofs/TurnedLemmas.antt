@@ -41,6 +41,7 @@ use Rattle.suite_course.proofs.CompleteLemmas.{answers-as}
 use Rattle.suite_course.proofs.FreeLemmas.{reports-freely}
 use Rattle.suite_course.proofs.LeavesLemmas.{leaves-alone}
 use Rattle.suite_course.proofs.PlaceLemmas.{shows-at}
+use Rattle.suite_course.proofs.PlanLemmas.{plans-exactly}
 
 -- with no call but that of the answer left, the calls are within the bound
 called-within : (token : Token) (answer : Answer) (history : History) →
@@ -94,6 +95,8 @@ module _ (deeds : SuiteDeeds) (ours : AreOfTools deeds) where
           within = within;
           free_reports = λ is.
               reports-freely runner answer past.history (free is) says due.shown drops;
+          plan_exact = plans-exactly deeds runner.asked past.first past.history runner.token answer
+              free shows.shown;
           left = left;
           moved = moved;
           leaves = λ old alone. leaves-alone deeds runner.asked past.first past runner.token

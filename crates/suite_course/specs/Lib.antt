@@ -5,5 +5,6 @@ pub mod Asked
 pub mod Course
 pub mod Alone
 pub mod Shows
+pub mod Plans
 pub mod Top
 pub mod Turned

@@ -39,6 +39,7 @@ use Rattle.suite_course.specs.Open.{StandsOpen}
 use Rattle.suite_course.specs.Streams.{Streams, Serves}
 use Rattle.suite_course.specs.Alone.{AnswersOnOld, IsAlone, Leaves}
 use Rattle.suite_course.specs.Shows.{IfReportsFreely, IsAlwaysSettled, Shows}
+use Rattle.suite_course.specs.Plans.{IfPlansExactly}
 use Rattle.suite_course.specs.declared.supplies.Lack.{Lack}
 use Rattle.suite_course.specs.Supplies.{Supplies, Lacks, LacksNothing, told_lack}
 
@@ -75,7 +76,8 @@ pub record Answered (asked : Question) (outcome : Outcome) (token : Token) (hist
 
 -- A session of this token began in this call, between the two moments, with what was asked, and its
 -- last event is its answer. New events were admitted from others or are its own, which are within the
--- bound; those of a report change no name. A lawful history shows what the answer tells; of all that the
+-- bound; those of a report change no name. A lawful history shows what the answer tells, and of a plan that
+-- it is its command's at its place, but that it tells of a change in place of making it; of all that the
 -- session has met that drops nothing, and it looked at nothing again. Whatever it wrote was due, be it that
 -- a call failed. Unless a fault or want of memory stopped it, it has freed the lock that it kept, has moved
 -- all that it staged, and with an answer of its tool it knows that no intent stands, be it that it carried
@@ -91,6 +93,8 @@ pub record HasRun (asked : Question) (admits : Admission) (given : Answer) (outc
   pub looks_once : LooksOnce token new
   pub wrote : WroteDue token new
   pub free_reports : IfReportsFreely asked token given.outcome.cause new
+  pub plan_exact : IfLawful admits first old (λ deeds.
+      IfPlansExactly deeds asked first new token given)
   pub left : (IsStopped given.outcome.cause → ⊥) →
       HasLeft token given.outcome.cause (record { first = first; history = new })
   pub moved : (IsStopped given.outcome.cause → ⊥) → HasMovedAll (standing token new)

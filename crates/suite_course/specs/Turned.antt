@@ -24,15 +24,17 @@ use Rattle.suite_session.specs.Writing.{WroteDue}
 use Rattle.suite_course.specs.Open.{StandsOpen}
 use Rattle.suite_course.specs.Alone.{AnswersOnOld, IsAlone, Leaves}
 use Rattle.suite_course.specs.Shows.{IfReportsFreely, IsAlwaysSettled, Shows}
+use Rattle.suite_course.specs.Plans.{IfPlansExactly}
 
 -- What a lawful history shows of a session that has this answer to give, or gave it. The answer says what
 -- its cause says: the status, and both texts. The settled files are the fold after each part of the
 -- history; what the answer tells is so, also how far the commit came; of all that the session has met it
 -- drops nothing, and it looked at nothing again; whatever it wrote was due; its calls are within the bound,
--- and those of a report change no name. Unless it was stopped it has freed its lock, has moved all that it staged, and with an
--- answer of its tool it knows that no intent stands. Where it was alone since an earlier moment it leaves
--- the locks, the staging names, the intent and the backups as it must; and where nothing stood in its way,
--- and the folder didn't fail, its answer is the tool's, or there was no memory.
+-- and those of a report change no name. A plan answers as its command at its place, but that it tells of a
+-- change in place of making it. Unless it was stopped it has freed its lock, has moved all that it staged,
+-- and with an answer of its tool it knows that no intent stands. Where it was alone since an earlier moment
+-- it leaves the locks, the staging names, the intent and the backups as it must; and where nothing stood in
+-- its way, and the folder didn't fail, its answer is the tool's, or there was no memory.
 pub record Promises (deeds : SuiteDeeds) (runner : Runner) (answer : Answer) (past : Past)
     : Type 0 where
   pub says : Says runner.asked answer answer.outcome.cause
@@ -43,6 +45,7 @@ pub record Promises (deeds : SuiteDeeds) (runner : Runner) (answer : Answer) (pa
   pub wrote : WroteDue runner.token past.history
   pub within : IsWithin runner.token past.history
   pub free_reports : IfReportsFreely runner.asked runner.token answer.outcome.cause past.history
+  pub plan_exact : IfPlansExactly deeds runner.asked past.first past.history runner.token answer
   pub left : (IsStopped answer.outcome.cause → ⊥) →
       HasLeft runner.token answer.outcome.cause past
   pub moved : (IsStopped answer.outcome.cause → ⊥) →

@@ -14,8 +14,8 @@ pub fn tools_have_deeds()
 }
 
 /// A session that belongs to a folder and has its answer to give, or gave it, has what the top call
-/// promises: the settled files, what its cause says, that a report changes no name, and where it was
-/// alone what it leaves and that its answer is its tool's.
+/// promises: the settled files, what its cause says, that a report changes no name and a plan answers by
+/// what its command answers, and where it was alone what it leaves and that its answer is its tool's.
 ///
 /// A session that is turned call by call belongs to its folder, in whatever order and however long ago
 /// it answered, by the clauses of `Session::turn`.
