@@ -31,7 +31,7 @@ impl Drop for Asked {
 }
 
 impl Asked {
-    /// The words of the command, with a blank between two, and what chpasswd(8) or a batch takes.
+    /// The words of the command, with a blank between two, and what one that reads an input takes.
     pub fn of(alloc: Global, command: &[u8], input: &[u8]) -> Result<Self, AllocError> {
         let command = Bytes::of(alloc, command)?;
         let input = Bytes::of(alloc, input)?;

@@ -12,7 +12,7 @@ pub(crate) const DAY: u32 = 20000;
 /// first call.
 #[derive(Clone, Copy, PartialEq, Eq)]
 pub enum Failing {
-    /// What chpasswd(8) takes.
+    /// What chpasswd(8), chgpasswd(8) or a batch takes.
     Input,
     /// What gives the day.
     Clock,
@@ -24,7 +24,7 @@ pub enum Failing {
 
 /// What a command reads, what it prints to, and its clock.
 pub struct Streams {
-    /// What chpasswd(8) takes, and a batch.
+    /// What chpasswd(8), chgpasswd(8) or a batch takes.
     pub input: MemorySource,
     /// Where the output goes.
     pub out: MemorySink,
