@@ -107,6 +107,7 @@ pub record Point : Type 0 where
   pub old : ℕ
   pub new : ℕ
 
+-- how many of these lines do, at a place that counts from 0
 abbrev pub point_at : List DiffLine → ℕ → Point
 point_at lines place = record {
   old = count_by is_old (take place lines);

@@ -34,7 +34,7 @@ pub record ToolRow : Type 0 where
   pub rules : List Rule
   -- whether it reads the input
   pub reads_input : Bool
-  -- whether a line of a batch may name it: it changes tables, and reads no input
+  -- whether a line of a batch may name it; each that it may changes tables, and reads no input
   pub is_for_lines : Bool
   pub reporting : Reporting
   pub statuses : ToolStatuses

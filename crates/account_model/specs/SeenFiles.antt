@@ -1,6 +1,6 @@
 -- Which tables the answer of a command rests on, and the files as it sees them. A report reads no table but
 -- these: getsubids(1) needs no shadow, which may not be readable for who asks (pwck(8), grpck(8),
--- getsubids(1), chage(1)).
+-- getsubids(1), chage(1), passwd(1), groupmems(8)).
 use Rattle.std.specs.Prelude.{if◌then◌else◌, List}
 use Rattle.acct_text.specs.declared.Tab.{Tab}
 use Rattle.acct_text.specs.declared.files.Files.{Files}

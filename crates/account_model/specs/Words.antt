@@ -32,7 +32,7 @@ tools = Useradd ∷ Usermod ∷ Userdel ∷ Chfn ∷ Chsh ∷ Groupadd ∷ Group
 abbrev pub tool_named : Word → Option Tool
 tool_named name = find (λ tool. bytes_eq (tool_name tool) name) tools
 
--- whether a line of a batch may name the tool: it changes tables, and reads no input
+-- whether a line of a batch may name the tool; each that it may changes tables, and reads no input
 abbrev pub is_for_lines : Tool → Bool
 is_for_lines tool = (row_of tool).is_for_lines
 

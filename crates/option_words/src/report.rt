@@ -21,8 +21,8 @@ const ALL: &[Tab] = &[
 ];
 
 impl Parsed {
-    /// Whether the command only shows what stands: `pwck -r`, `grpck -r`, `getsubids` and `chage -l`, and
-    /// each plan.
+    /// Whether the command only shows what stands: `pwck -r`, `grpck -r`, `getsubids`, `chage -l`,
+    /// `passwd -S`, `groupmems -l`, and each plan.
     pub fn is_report(&self) -> bool
         ensures { result ≡ is_report (request_in self.now) }
     {

@@ -34,8 +34,8 @@ pub fn read_words(alloc: Global, words: &[Word]) -> Result<Parsed, WordFault>
 }
 
 /// What the words of a line of a batch ask for, in the folder of the batch: the prefix is empty, and
-/// `-P` and `--prefix` are unknown options. Word 0 names a tool that changes tables: chpasswd, pwck,
-/// grpck, getsubids and batch are unknown.
+/// `-P` and `--prefix` are unknown options. Word 0 names a tool whose row is for lines (`is_for_lines`),
+/// as useradd or groupdel; each other tool, and `plan`, is unknown.
 ///
 /// A fault of the words is the first of them, in the same order as `read_words` has it, and `Memory`
 /// comes for want of memory alone. The time is linear in the bytes of the words.

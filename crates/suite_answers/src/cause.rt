@@ -19,7 +19,7 @@ const CLOCK_FAULT_STATUS: u8 = 103;
 /// What has more bytes than it may have.
 #[derive(Clone, Copy, Drop)]
 pub enum Which {
-    /// The input of chpasswd(8), or that of a batch.
+    /// The input of chpasswd(8) or chgpasswd(8), or that of a batch.
     Input,
     /// A file of the folder.
     File(Name),
