@@ -1,6 +1,6 @@
--- What a report is and shows: a command that only tells what stands (`pwck -r`, `grpck -r`, getsubids and
--- `chage -l`). It takes no lock and changes nothing, and its answer is that on what it has shown
--- (docs/ARCHITECTURE.md, "Reports").
+-- What a report is and shows: a command that only tells what stands, as `pwck -r`, and each plan. It takes
+-- no lock and changes nothing, and its answer is that on what it has shown (docs/ARCHITECTURE.md,
+-- "Reports").
 use Rattle.std.specs.Prelude.{◌≡◌, ⊤, true, ℕ, ◌≤◌, length, Option, Some}
 use Rattle.std.specs.List.{AllByRecursion}
 use Rattle.acct_text.specs.Contents.{Contents}

@@ -71,8 +71,8 @@ impl Question {
         self.parsed.tool
     }
 
-    /// Whether it asks for a report, which takes no lock and changes nothing: `pwck -r`, `grpck -r`,
-    /// getsubids or `chage -l`.
+    /// Whether it asks for a report, as `pwck -r`, or for a plan: neither takes a lock or changes
+    /// anything.
     pub(crate) fn is_report(&self) -> bool
         ensures { result ≡ is_report self.now.request }
     {
