@@ -1,6 +1,6 @@
 -- What holds of each item of a list: of two lists together, and of those that pass a test.
 use Rattle.std.proofs.Common.{Bool, true, false, List, [], ◌∷◌, ◌++◌}
-use Rattle.std.specs.Prelude.{filter, cond}
+use Rattle.std.specs.Prelude.{filter, cond, if◌then◌else◌}
 use Rattle.std.specs.List.{AllByRecursion}
 
 -- what holds of two lists holds of both together
@@ -11,6 +11,14 @@ pub all-append :
     → AllByRecursion P (a ++ b)
 all-append P [] b all_a all_b = all_b
 all-append P (x ∷ a) b all_a all_b = (all_a.0, all-append P a b all_a.1 all_b)
+
+-- what holds of an item holds of a list that has it or nothing
+pub all-if :
+    {X : Type 0} (P : X → Type 0) (test : Bool) (x : X)
+    → P x
+    → AllByRecursion P (if test then x ∷ [] else [])
+all-if P true x is = (is, tt)
+all-if P false x is = tt
 
 -- what holds of all holds of those that are kept
 filter-by :

@@ -1,7 +1,8 @@
--- Without edits the files stay, byte for byte.
-use Rattle.std.proofs.Common.{◌≡◌, ℕ, List, [], refl, ap}
-use Rattle.std.specs.Prelude.{Option, Some, None}
+-- Without edits the files stay, byte for byte, and no record is touched.
+use Rattle.std.proofs.Common.{◌≡◌, ℕ, List, [], ◌∷◌, refl, ap}
+use Rattle.std.specs.Prelude.{Option, Some, None, ◌&&◌, find, option_map}
 use Rattle.acct_text.specs.declared.files.Files.{Files}
+use Rattle.account_model.specs.Edits.{touches, is_multiple, first_multiple}
 use Rattle.account_model.specs.Format.{Format}
 use Rattle.account_model.specs.Records.{passwd_format, shadow_format, group_format, gshadow_format, subid_format}
 use Rattle.account_model.specs.Tables.{no_edits, table_after, files_after}
@@ -24,3 +25,15 @@ files-stay files = λ i. record {
   subuid = table-stays subid_format files.subuid i;
   subgid = table-stays subid_format files.subgid i;
 }
+
+-- without edits no name is touched
+pub none-touched :
+    {R : Type 0} (format : Format R) (records : List R)
+    → first_multiple format [] records ≡ None
+none-touched {R = R} format records = ap (option_map format.name) (none records)
+  where
+    none :
+        (others : List R)
+        → find (λ r. touches format [] r && is_multiple format records r) others ≡ None
+    none [] = refl
+    none (r ∷ others) = none others

@@ -1,7 +1,7 @@
 -- Claim: a password that is locked and then unlocked gives back the files (`lock-then-unlock`). Way: the hash stands in
 -- shadow (`in-shadow`) or, without that, in passwd (`in-passwd`); in that table LockLaws has it, and no other changes.
 use Rattle.std.proofs.Common.{◌≡◌, ℕ, Bool, true, false, not, List, [], ◌∷◌, refl, sym, ◌∙◌, ap, subst, Ok}
-use Rattle.std.specs.Prelude.{Option, Some, None, ◌&&◌, bytes_eq, codes, find, is_some, option_map, unwrap_or}
+use Rattle.std.specs.Prelude.{Option, Some, None, bytes_eq, codes, is_some, option_map, unwrap_or}
 use Rattle.acct_text.specs.declared.files.Files.{Files}
 use Rattle.acct_text.specs.declared.Tab.TheVariants.{Passwd, Shadow, Group, Gshadow}
 use Rattle.acct_text.specs.Bytes.{is_empty}
@@ -11,8 +11,8 @@ use Rattle.account_model.specs.declared.records.PasswdRecord.{PasswdRecord}
 use Rattle.account_model.specs.declared.records.ShadowRecord.{ShadowRecord}
 use Rattle.account_model.specs.declared.refusal.Refusal.TheVariants.{NoUser, Multiple}
 use Rattle.account_model.specs.Text.{begins_with, exclamation, first_some}
-use Rattle.account_model.specs.Format.{Format, is_named, find_named}
-use Rattle.account_model.specs.Edits.{Edit, each_where, edited_by, touches, is_multiple, first_multiple}
+use Rattle.account_model.specs.Format.{is_named, find_named}
+use Rattle.account_model.specs.Edits.{Edit, each_where, edited_by, first_multiple}
 use Rattle.account_model.specs.Records.{passwd_format, shadow_format, group_format, gshadow_format, subid_format}
 use Rattle.account_model.specs.Tables.{Script, no_edits, files_after, table_after, table_records, passwd_records, shadow_records, group_records, gshadow_records}
 use Rattle.account_model.specs.WrittenScript.{IsWrittenScript}
@@ -25,7 +25,7 @@ use Rattle.account_model.specs.PasswdLaws.{flag_alone, HasOpenHash, LockThenUnlo
 use Rattle.account_model.proofs.BatchLaws.{outcome-made}
 use Rattle.account_model.proofs.DeedLaws.{first-none}
 use Rattle.account_model.proofs.LockLaws.{unmapped, unlocked-again, locked-found, unlock-single}
-use Rattle.account_model.proofs.NoEdits.{table-stays}
+use Rattle.account_model.proofs.NoEdits.{table-stays, none-touched}
 use Rattle.account_model.proofs.PasswdScripts.{passwd-written}
 use Rattle.account_model.proofs.RefusalFacts.{refuse-none}
 use Rattle.account_model.proofs.SameLaws.{passwd-tells, shadow-tells}
@@ -39,18 +39,6 @@ some-of (Some x) there = (x, refl)
 there-of : (b : Bool) → not b ≡ false → b ≡ true
 there-of true is = refl
 there-of false is = cc
-
--- without edits no name is touched
-none-touched :
-    {R : Type 0} (format : Format R) (records : List R)
-    → first_multiple format [] records ≡ None
-none-touched {R = R} format records = ap (option_map format.name) (none records)
-  where
-    none :
-        (others : List R)
-        → find (λ r. touches format [] r && is_multiple format records r) others ≡ None
-    none [] = refl
-    none (r ∷ others) = none others
 
 -- the locked hash isn't `!` alone
 not-mark :

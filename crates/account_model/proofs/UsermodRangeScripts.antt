@@ -1,7 +1,7 @@
 -- The subordinate ranges that usermod removes and adds can stand in lines: `range-edits-written`. Way: a value of `-v` or
 -- `-w` names two IDs in their order (`values-ordered`), and what is left of a range keeps its bounds (`left-held`).
 use Rattle.std.proofs.Common.{◌≡◌, ℕ, ◌+◌, ◌-◌, ◌<◌, ◌≤◌, min, max, Bool, true, false, List, [], ◌∷◌, map, refl, subst, arith}
-use Rattle.std.specs.Prelude.{Option, Some, None, filter_map, nat_le, nat_lt, unwrap_or, if◌then◌else◌}
+use Rattle.std.specs.Prelude.{Option, Some, None, bytes_eq, filter_map, nat_le, nat_lt, not, unwrap_or, if◌then◌else◌}
 use Rattle.std.specs.List.{AllByRecursion, cons_option}
 use Rattle.std.proofs.lemmas.Bool.{leb-true, ltb-true}
 use Rattle.acct_text.specs.Lines.{Line, lines_of}
@@ -10,15 +10,15 @@ use Rattle.acct_text.proofs.NumberLaws.{some-inj, number-is}
 use Rattle.account_model.specs.declared.records.SubidRecord.{SubidRecord}
 use Rattle.account_model.specs.Text.{hyphen}
 use Rattle.account_model.specs.Format.{is_named}
-use Rattle.account_model.specs.Edits.{edited, edited_by}
+use Rattle.account_model.specs.Edits.{Edit, edited, edited_by}
 use Rattle.account_model.specs.Records.{subid_format, greatest_id, read_id, last_id}
 use Rattle.account_model.specs.RecordEdits.{IsWrittenEdit}
 use Rattle.account_model.specs.Written.{IsWritten, IsNameField, IsSubid}
 use Rattle.account_model.specs.Request.{Request, values_of}
 use Rattle.account_model.specs.SubidOwner.{is_owned, left_below, left_above, left_without}
-use Rattle.account_model.specs.UsermodRanges.{IdRange, range_of_ids, range_of_pieces, range_value, ranges_given, RangeOwner, RangeChange, change_asked, rename_owner, cut_range, add_range, edits_before_adding, range_edits, has_range, new_ranges, change_in}
+use Rattle.account_model.specs.UsermodRanges.{IdRange, range_of_ids, range_of_pieces, range_value, ranges_given, RangeOwner, RangeChange, change_asked, rename_owner, cut_range, add_range, edits_before_adding, range_edits, has_range, new_ranges, change_in, renaming}
 use Rattle.account_model.proofs.HeldLaws.{subid-holds, each_where-written}
-use Rattle.account_model.proofs.ListLaws.{all-append}
+use Rattle.account_model.proofs.ListLaws.{all-append, all-if}
 
 -- two IDs in their order
 pub record IsOrdered (ids : IdRange) : Type 0 where
@@ -198,6 +198,15 @@ adds-written owner (ids ∷ ranges) named all = (
       owner ranges named all.1,
 )
 
+-- what holds of the renaming and of each removal holds of the edits before ranges are added
+pub before-all :
+    (P : Edit SubidRecord → Type 0) (owner : RangeOwner) (change : RangeChange)
+    → P (rename_owner owner)
+    → AllByRecursion P (map (cut_range owner) change.removed)
+    → AllByRecursion P (edits_before_adding owner change)
+before-all P owner change renames cuts = all-append P (renaming owner) (map (cut_range owner) change.removed)
+    (all-if P (not (bytes_eq owner.old_name owner.new_name)) (rename_owner owner) renames) cuts
+
 -- the owner field
 owner-written :
     (owner : RangeOwner)
@@ -217,5 +226,5 @@ pub range-edits-written :
 range-edits-written owner change named all =
     all-append (IsWrittenEdit subid_format) (edits_before_adding owner change)
     (map (add_range owner) change.added)
-    (owner-written owner named, cuts-written owner change.removed)
+    (before-all _ owner change (owner-written owner named) (cuts-written owner change.removed))
     (adds-written owner change.added named all)

@@ -27,7 +27,7 @@ use Rattle.account_model.specs.Request.{Request, has_option, value_of, operand}
 use Rattle.account_model.specs.Refusals.{bad_value, missing_user, bad_list_name}
 use Rattle.account_model.specs.UsermodHash.{sets_hash, sets_aging, locked_hash, unlocked_hash, relocked_hash, hash_after, hash_script}
 use Rattle.account_model.specs.UsermodRanges.{meeting_in}
-use Rattle.account_model.specs.Usermod.{new_name, changed_user, changed_shadow, is_listed_group, joined_or_left, members_after, changed_group, changed_gshadow, range_owner, subuid_change, subgid_change, taken_name, taken_uid, empty_hash, no_shadow, unlistable_name, usermod_checks, usermod_conflicts, usermod_refusals, change_user}
+use Rattle.account_model.specs.Usermod.{new_name, changed_user, changed_shadow, is_listed_group, joined_or_left, members_after, changed_group, changed_gshadow, sets_passwd, sets_shadow, sets_lists, range_owner, subuid_change, subgid_change, taken_name, taken_uid, empty_hash, no_shadow, unlistable_name, usermod_checks, usermod_conflicts, usermod_refusals, change_user}
 use Rattle.account_model.proofs.DeedLaws.{first-none}
 use Rattle.account_model.proofs.HeldLaws.{passwd-holds, shadow-holds, group-holds, gshadow-holds, each-written, each_where-written}
 use Rattle.account_model.proofs.FieldFacts.{is_field-is, is_folder-is, is_shell-is, valid-name, valid-listed}
@@ -41,6 +41,7 @@ use Rattle.account_model.proofs.LawfulTools.{LawfulTool, quiet-act}
 use Rattle.account_model.proofs.NamedParts.{first-has}
 use Rattle.account_model.proofs.UsermodSpares.{change-spares, usermod_names}
 use Rattle.account_model.specs.declared.tool.Tool.TheVariants.{Usermod}
+use Rattle.account_model.proofs.ListLaws.{all-if}
 use Rattle.account_model.proofs.MemberLaws.{with-listed, without-listed, renamed-listed}
 use Rattle.account_model.proofs.UsermodRangeScripts.{added-ordered, range-edits-written}
 use Rattle.account_model.proofs.GivenFacts.{given-group-gid, expiration-held}
@@ -345,29 +346,21 @@ change-user-written :
     → UsermodPasses request files
     → IsWrittenOn day (change_user request files day)
 change-user-written request files day passes = record {
-  passwd = (
-    each_where-written passwd_format IsPasswd passwd-holds
-        (is_named passwd_format (operand request))
-        (changed_user request files) (λ r is. changed-user-held request files r passes is),
-    tt,
-  );
-  shadow = λ small. (
-    each_where-written shadow_format IsShadow shadow-holds
-        (is_named shadow_format (operand request))
-        (changed_shadow request day) (λ r is. changed-shadow-held request files
-        day r passes small is),
-    tt,
-  );
-  group = (
-    each-written group_format IsGroup group-holds (changed_group request files)
-        (λ r is. changed-group-held request files r passes is),
-    tt,
-  );
-  gshadow = (
-    each-written gshadow_format IsGshadow gshadow-holds (changed_gshadow request files)
-        (λ r is. changed-gshadow-held request files r passes is),
-    tt,
-  );
+  passwd = all-if _ (sets_passwd request) _
+      (each_where-written passwd_format IsPasswd passwd-holds
+      (is_named passwd_format (operand request))
+      (changed_user request files) (λ r is. changed-user-held request files r passes is));
+  shadow = λ small. all-if _ (sets_shadow request) _
+      (each_where-written shadow_format IsShadow shadow-holds
+      (is_named shadow_format (operand request))
+      (changed_shadow request day) (λ r is. changed-shadow-held request files
+      day r passes small is));
+  group = all-if _ (sets_lists request) _
+      (each-written group_format IsGroup group-holds (changed_group request files)
+      (λ r is. changed-group-held request files r passes is));
+  gshadow = all-if _ (sets_lists request) _
+      (each-written gshadow_format IsGshadow gshadow-holds (changed_gshadow request files)
+      (λ r is. changed-gshadow-held request files r passes is));
   subuid = range-edits-written (range_owner request files) (subuid_change request files)
       (new-name-field request files passes)
       (added-ordered files.subuid (range_owner request files) (codes "V") (codes "v") request);
@@ -380,15 +373,11 @@ change-user-written request files day passes = record {
 pub usermod-lawful : LawfulTool Usermod
 usermod-lawful request input day files settings = quiet-act refl refl refl (λ none.
     let passes = usermod-passes request files none
-    in all-hold (lawful-composed (usermod_names request files))
-    (hash_script request files ∷ change_user request files day ∷ []) (
-      hash-script-lawful request files passes,
-      (
-        record {
-          written = change-user-written request files day passes;
-          spares = change-spares request files day;
-          keep = may-give;
-        },
-        tt,
-      ),
-    ))
+    in (lawful-composed (usermod_names request files)).both
+    (hash_script request files) (change_user request files day)
+    (hash-script-lawful request files passes)
+    (record {
+      written = change-user-written request files day passes;
+      spares = change-spares request files day;
+      keep = may-give;
+    }))

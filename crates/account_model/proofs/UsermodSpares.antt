@@ -1,8 +1,7 @@
 -- What usermod changes in the six tables is of the user and the groups that it names (`change-spares`).
-use Rattle.std.proofs.Common.{◌≡◌, ℕ, Bool, true, false, ◌||◌, not, List, [], ◌∷◌, map, refl, ◌∙◌, ap}
+use Rattle.std.proofs.Common.{◌≡◌, ℕ, Bool, true, false, not, List, [], ◌∷◌, map, refl, ◌∙◌, ap}
 use Rattle.std.specs.Prelude.{codes, if◌then◌else◌}
 use Rattle.std.specs.List.{AllByRecursion}
-use Rattle.std.proofs.lemmas.Bool.{or_parts}
 use Rattle.acct_text.specs.declared.files.Files.{Files}
 use Rattle.account_model.specs.declared.records.GroupRecord.{GroupRecord}
 use Rattle.account_model.specs.declared.records.GshadowRecord.{GshadowRecord}
@@ -13,13 +12,14 @@ use Rattle.account_model.specs.Format.{is_named}
 use Rattle.account_model.specs.Records.{passwd_format, shadow_format, subid_format}
 use Rattle.account_model.specs.Request.{Request, has_option, operand}
 use Rattle.account_model.specs.Members.{with_name, without_name}
-use Rattle.account_model.specs.UsermodRanges.{IdRange, RangeChange, RangeOwner, add_range, cut_range, range_edits, rename_owner}
-use Rattle.account_model.specs.Usermod.{change_user, changed_group, changed_gshadow, changed_shadow, changed_user, is_listed_group, members_after, new_name, range_owner, subgid_change, subuid_change, uid_after, with_new_name}
+use Rattle.account_model.specs.UsermodRanges.{IdRange, RangeChange, RangeOwner, add_range, cut_range, edits_before_adding, range_edits}
+use Rattle.account_model.specs.Usermod.{change_user, changed_group, changed_gshadow, changed_shadow, changed_user, is_listed_group, members_after, new_name, range_owner, sets_lists, sets_passwd, sets_shadow, subgid_change, subuid_change, uid_after, with_new_name}
 use Rattle.account_model.specs.SubidOwner.{is_owned, left_without}
 use Rattle.account_model.specs.NamedLines.{Named, lists_any, named_by, names_group, names_gshadow, names_subid, owner_fields}
-use Rattle.account_model.proofs.ListLaws.{all-append}
+use Rattle.account_model.proofs.ListLaws.{all-append, all-if}
 use Rattle.account_model.proofs.RenamingLaws.{unlisted_stays}
 use Rattle.account_model.proofs.NamedParts.{first-has, other-user, other-shadow}
+use Rattle.account_model.proofs.UsermodRangeScripts.{before-all}
 use Rattle.account_model.proofs.NamedLaws.{Spares, SparesUnnamed, not-others, not-owned, not-this, unlisted-in, unlisted-stays, where-spares, group-parts, gshadow-parts}
 
 -- members that stay, whether groups are listed or the user is added
@@ -109,35 +109,30 @@ module _ (request : Request) (files : Files) where
       let owner = range_owner request files
       in let fields = owner_fields (new_name request) (uid_after request files)
       in all-append (Spares subid_format false (names_subid usermod_names))
-      (rename_owner owner ∷ map (cut_range owner) change.removed)
-      (map (add_range owner) change.added) (
-        where-spares subid_format false _ (is_named subid_format (operand request))
-            (λ one. record one { owner = new_name request })
-            (λ r. not-this r.owner (operand request) fields),
-        cuts-spare owner change.removed
-            (λ r none. not-owned (new_name request) (uid_after request files) r
-            (not-others r.owner (operand request) fields none)),
-      )
+      (edits_before_adding owner change) (map (add_range owner) change.added)
+      (before-all _ owner change
+      (where-spares subid_format false _ (is_named subid_format (operand request))
+      (λ one. record one { owner = new_name request })
+      (λ r. not-this r.owner (operand request) fields))
+      (cuts-spare owner change.removed
+      (λ r none. not-owned (new_name request) (uid_after request files) r
+      (not-others r.owner (operand request) fields none))))
       (adds-spare owner change.added)
 
   -- the lines of the six tables
   pub change-spares :
       (day : ℕ) → SparesUnnamed false usermod_names (change_user request files day)
   change-spares day = record {
-    passwd = (
-      where-spares passwd_format false _ (is_named passwd_format (operand request))
-          (changed_user request files)
-          (other-user usermod_names (operand request) (first-has (operand request) [])),
-      tt,
-    );
-    shadow = (
-      where-spares shadow_format false _ (is_named shadow_format (operand request))
-          (changed_shadow request day)
-          (other-shadow usermod_names (operand request) (first-has (operand request) [])),
-      tt,
-    );
-    group = (group-stays, tt);
-    gshadow = (gshadow-stays, tt);
+    passwd = all-if _ (sets_passwd request) _
+        (where-spares passwd_format false _ (is_named passwd_format (operand request))
+        (changed_user request files)
+        (other-user usermod_names (operand request) (first-has (operand request) [])));
+    shadow = all-if _ (sets_shadow request) _
+        (where-spares shadow_format false _ (is_named shadow_format (operand request))
+        (changed_shadow request day)
+        (other-shadow usermod_names (operand request) (first-has (operand request) [])));
+    group = all-if _ (sets_lists request) _ group-stays;
+    gshadow = all-if _ (sets_lists request) _ gshadow-stays;
     subuid = ranges-spare (subuid_change request files);
     subgid = ranges-spare (subgid_change request files);
   }

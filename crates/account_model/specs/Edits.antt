@@ -29,6 +29,10 @@ each_where test f = each (λ r. if test r then f r else r)
 abbrev pub drop_where : {R : Type 0} → (R → Bool) → Edit R
 drop_where test = Become (λ r. if test r then [] else r ∷ [])
 
+-- the edit where the test holds, and else none
+abbrev pub edit_if : {R : Type 0} → Bool → Edit R → List (Edit R)
+edit_if test edit = if test then edit ∷ [] else []
+
 -- the line of a new record, which has an end
 abbrev pub printed_line : {R : Type 0} → Format R → R → Line
 printed_line format r = record { text = format.print r; ended = true }

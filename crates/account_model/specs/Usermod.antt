@@ -11,9 +11,9 @@ use Rattle.account_model.specs.declared.refusal.Refusal.TheVariants.{UserExists,
 use Rattle.acct_text.specs.Bytes.{is_empty}
 use Rattle.account_model.specs.Text.{is_listed}
 use Rattle.account_model.specs.Format.{is_named}
-use Rattle.account_model.specs.Edits.{each, each_where}
+use Rattle.account_model.specs.Edits.{each, each_where, edit_if}
 use Rattle.account_model.specs.Records.{passwd_format, shadow_format, read_id, is_id}
-use Rattle.account_model.specs.Tables.{Script, in_order}
+use Rattle.account_model.specs.Tables.{Script, followed_by}
 use Rattle.account_model.specs.Names.{is_valid_name}
 use Rattle.account_model.specs.Values.{is_field, is_folder, is_shell, is_days_value, is_expiration_value, days_value, expiration_value, field_value, text_value, given_uid}
 use Rattle.account_model.specs.GivenGroups.{given_group, given_groups, unknown_group, unknown_groups}
@@ -44,6 +44,13 @@ changed_user request files r = record r {
   shell = text_value (codes "s") request r.shell;
 }
 
+-- an option sets a field of passwd
+abbrev pub sets_passwd : Request → Bool
+sets_passwd request =
+    has_option (codes "c") request || has_option (codes "d") request
+    || has_option (codes "s") request || has_option (codes "u") request
+    || has_option (codes "g") request || has_option (codes "l") request
+
 -- ---- Shadow
 
 -- `-e`, `-f` and `-l` set the fields of shadow, and `-p` sets the last change to the day
@@ -54,6 +61,11 @@ changed_shadow request day r = record r {
   inactive = field_value days_value (codes "f") request r.inactive;
   expiration = field_value expiration_value (codes "e") request r.expiration;
 }
+
+-- an option sets a field of shadow
+abbrev pub sets_shadow : Request → Bool
+sets_shadow request =
+    sets_aging request || has_option (codes "l") request || has_option (codes "p") request
 
 -- ---- Groups
 
@@ -88,6 +100,10 @@ changed_gshadow request files r = record r {
   administrators = with_new_name request r.administrators;
   members = members_after request files r.name r.members;
 }
+
+-- `-G` or `-l` is given, which change these lists
+abbrev pub sets_lists : Request → Bool
+sets_lists request = has_option (codes "G") request || has_option (codes "l") request
 
 -- ---- Subordinate IDs
 
@@ -194,21 +210,24 @@ usermod_refusals request files = usermod_checks request ++ usermod_conflicts req
 
 -- ---- The whole
 
--- each table once: LOGIN's lines of passwd and shadow, all lists of group and gshadow, and LOGIN's ranges
+-- each table once, where an option asks for it: LOGIN's lines of passwd and shadow, and all lists of group and gshadow;
+-- and LOGIN's ranges
 abbrev pub change_user : Request → Files → ℕ → Script
 change_user request files day = record {
-  passwd = each_where (is_named passwd_format (operand request)) (changed_user request files) ∷ [];
-  shadow = each_where (is_named shadow_format (operand request)) (changed_shadow request day) ∷ [];
-  group = each (changed_group request files) ∷ [];
-  gshadow = each (changed_gshadow request files) ∷ [];
+  passwd = edit_if (sets_passwd request)
+      (each_where (is_named passwd_format (operand request)) (changed_user request files));
+  shadow = edit_if (sets_shadow request)
+      (each_where (is_named shadow_format (operand request)) (changed_shadow request day));
+  group = edit_if (sets_lists request) (each (changed_group request files));
+  gshadow = edit_if (sets_lists request) (each (changed_gshadow request files));
   subuid = range_edits (range_owner request files) (subuid_change request files);
   subgid = range_edits (range_owner request files) (subgid_change request files);
 }
 
 -- the hash first, as it finds the user by the old name
 abbrev pub usermod_script : Request → Files → ℕ → Script
-usermod_script request files day = in_order
-    (hash_script request files ∷ change_user request files day ∷ [])
+usermod_script request files day =
+    followed_by (hash_script request files) (change_user request files day)
 
 -- what usermod does, by the tables and the day
 abbrev pub usermod : Request → Files → ℕ → Action

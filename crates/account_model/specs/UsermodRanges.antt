@@ -1,5 +1,5 @@
 -- The subordinate IDs that usermod removes and adds (usermod(8), `-v`, `-V`, `-w` and `-W`; subuid(5), subgid(5)).
-use Rattle.std.specs.Prelude.{ℕ, ◌+◌, ◌-◌, Bool, false, ◌&&◌, List, [], ◌∷◌, ◌++◌, map, filter_map, nat_le, Option, Some, None, is_some, option_and_then, unwrap_or, if◌then◌else◌}
+use Rattle.std.specs.Prelude.{ℕ, ◌+◌, ◌-◌, Bool, false, not, ◌&&◌, List, [], ◌∷◌, ◌++◌, map, filter_map, bytes_eq, nat_le, Option, Some, None, is_some, option_and_then, unwrap_or, if◌then◌else◌}
 use Rattle.std.specs.List.{list_any, position_from}
 use Rattle.acct_text.specs.declared.Tab.{Tab}
 use Rattle.account_model.specs.declared.records.SubidRecord.{SubidRecord}
@@ -9,7 +9,7 @@ use Rattle.acct_text.specs.Lines.{Line, lines_of}
 use Rattle.acct_text.specs.Pieces.{cut_at}
 use Rattle.account_model.specs.Text.{hyphen}
 use Rattle.account_model.specs.Format.{is_named, records_of}
-use Rattle.account_model.specs.Edits.{Edit, each_where, edited, edited_by}
+use Rattle.account_model.specs.Edits.{Edit, each_where, edit_if, edited, edited_by}
 use Rattle.account_model.specs.Edits.Edit.{Add, Become}
 use Rattle.account_model.specs.Records.{last_id, subid_format, read_id}
 use Rattle.account_model.specs.FreeRange.{meets}
@@ -75,6 +75,11 @@ abbrev pub rename_owner : RangeOwner → Edit SubidRecord
 rename_owner owner =
     each_where (is_named subid_format owner.old_name) (λ r. record r { owner = owner.new_name })
 
+-- an owner that gets another name is renamed
+abbrev pub renaming : RangeOwner → List (Edit SubidRecord)
+renaming owner =
+    edit_if (not (bytes_eq owner.old_name owner.new_name)) (rename_owner owner)
+
 -- the numbers of a range go out of every line that the user owns
 abbrev pub cut_range : RangeOwner → IdRange → Edit SubidRecord
 cut_range owner ids = Become (λ r.
@@ -87,7 +92,7 @@ add_range owner ids =
 
 -- the owner is renamed, and then the ranges are removed
 abbrev pub edits_before_adding : RangeOwner → RangeChange → List (Edit SubidRecord)
-edits_before_adding owner change = rename_owner owner ∷ map (cut_range owner) change.removed
+edits_before_adding owner change = renaming owner ++ map (cut_range owner) change.removed
 
 -- and then ranges are added
 abbrev pub range_edits : RangeOwner → RangeChange → List (Edit SubidRecord)

@@ -8,4 +8,3 @@ pub mod OnlyRange
 pub mod CutLemmas
 pub mod RemovalLemmas
 pub mod RangeCuts
-pub mod LeftLemmas

@@ -2,5 +2,4 @@ pub mod RangeNumbers
 pub mod InUse
 pub mod Changes
 pub mod KeptIds
-pub mod LeftRanges
 pub mod RangeRemovals

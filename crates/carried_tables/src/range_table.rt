@@ -10,7 +10,6 @@ ghost use Rattle.table.specs.Standing.{IsTaken};
 ghost use Rattle.table.specs.TableEdits.{AreWritten, table_by};
 ghost use Rattle.line_edits.specs.SubidChanges.{subid_becomes};
 
-use crate::left_ranges::open_edits;
 use crate::range_edits::edited_ranges;
 use crate::touched_tables::take_edited;
 use acct_lines::SubidRecord;
@@ -150,14 +149,13 @@ impl<'a> RangeTable<'a> {
         requires { AreWritten subid_format subid_becomes edits.now }
         ensures { OnOk result (self.new ≡ table_by subid_format subid_becomes edits.now self.old) }
     {
-        let open = open_edits(edits);
-        if open.is_empty() {
+        if edits.is_empty() {
             return Ok(());
         }
-        if !self.wants_index || are_many_with_cut(open) {
-            return self.remake(alloc, open);
+        if !self.wants_index || are_many_with_cut(edits) {
+            return self.remake(alloc, edits);
         }
-        self.edit_in_place(alloc, open)
+        self.edit_in_place(alloc, edits)
     }
 
     // Makes the edits in a pass over the lines. Where these stay, the table is left as it stands.

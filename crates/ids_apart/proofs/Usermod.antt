@@ -1,7 +1,7 @@
 -- Claim: usermod keeps ranges apart, and gives no UID to one more user, but where `-o` names it
 -- (`usermod-apart`). Way: the hash comes first and keeps all; a UID of `-u` that another user has is refused, and so is a user whose name
 -- stands twice.
-use Rattle.std.proofs.Common.{◌≡◌, ℕ, Bool, true, false, not, ◌&&◌, ◌||◌, List, [], ◌∷◌, ◌++◌, refl, sym, ◌∙◌, ap, subst, inl, inr, append-nil}
+use Rattle.std.proofs.Common.{◌≡◌, ℕ, Bool, true, false, not, ◌&&◌, ◌||◌, List, [], ◌∷◌, ◌++◌, refl, sym, ap, subst, inl, inr}
 use Rattle.std.specs.Prelude.{◌⊎◌, Option, Some, None, ◌==◌, codes, option_map, option_and_then, unwrap_or, if◌then◌else◌}
 use Rattle.std.specs.List.{AllByRecursion}
 use Rattle.std.proofs.lemmas.Bool.{eqb-true}
@@ -12,7 +12,7 @@ use Rattle.account_model.specs.declared.refusal.Refusal.TheVariants.{UidInUse, M
 use Rattle.account_model.specs.declared.tool.Tool.TheVariants.{Usermod}
 use Rattle.account_model.specs.Text.{first_some}
 use Rattle.account_model.specs.Format.{is_named}
-use Rattle.account_model.specs.Edits.{each_where, first_multiple}
+use Rattle.account_model.specs.Edits.{Edit, each_where, edit_if, first_multiple}
 use Rattle.account_model.specs.Records.{passwd_format, group_format, subid_format}
 use Rattle.account_model.specs.RecordEdits.{IsWrittenEdit}
 use Rattle.account_model.specs.Tables.{no_edits, passwd_records}
@@ -25,10 +25,10 @@ use Rattle.account_model.specs.Refusals.{refuse_if}
 use Rattle.account_model.specs.Action.{multiple_in, multiple_entries}
 use Rattle.account_model.specs.UsermodHash.{sets_hash, sets_aging, hash_after, hash_script}
 use Rattle.account_model.specs.UsermodRanges.{range_edits}
-use Rattle.account_model.specs.Usermod.{changed_user, changed_group, range_owner, subuid_change, subgid_change, is_own_uid, is_uid_taken, usermod_checks, usermod_conflicts, usermod_script, usermod}
+use Rattle.account_model.specs.Usermod.{changed_user, changed_group, sets_passwd, sets_lists, range_owner, subuid_change, subgid_change, is_own_uid, is_uid_taken, usermod_checks, usermod_conflicts, usermod_script, usermod}
 use Rattle.account_model.proofs.SameLaws.{passwd-tells}
 use Rattle.account_model.proofs.UsermodRangeScripts.{values-ordered, added-ordered}
-use Rattle.account_model.proofs.ListLaws.{all-append}
+use Rattle.account_model.proofs.ListLaws.{all-append, all-if}
 use Rattle.ids_apart.specs.Holders.{has_number, is_given}
 use Rattle.account_model.proofs.ComposedScripts.{all-hold, either-holds}
 use Rattle.ids_apart.proofs.HolderEdits.{AddsNone, EditsMeetNoMore, none-meets}
@@ -68,9 +68,8 @@ hash-quiet request files = all-hold quiet-composed
 ranges-behind :
     {X : Type 0} (hash ranges : List X)
     → hash ≡ []
-    → hash ++ (ranges ++ []) ≡ ranges
-ranges-behind hash ranges none =
-    ap (λ front. front ++ (ranges ++ [])) none ∙ append-nil ranges
+    → hash ++ ranges ≡ ranges
+ranges-behind hash ranges none = ap (λ front. front ++ ranges) none
 
 -- ---- The IDs
 
@@ -111,35 +110,42 @@ free-by request files uid shares none =
     ]
 
 module _ (request : Request) (files : Files) where
+  -- the edits of passwd, where an option sets a field there or none does
+  abbrev passwd_edits : Bool → List (Edit PasswdRecord)
+  passwd_edits sets = (hash_script request files).passwd ++ edit_if sets
+      (each_where (is_named passwd_format (operand request)) (changed_user request files))
+
+  -- edits that keep the UIDs, behind those of the hash
+  kept-users :
+      (id : ℕ) (edits : List (Edit PasswdRecord))
+      → AllByRecursion (AddsNone passwd_format (has_key uid_key id)) edits
+      → EditsMeetNoMore passwd_format (has_key uid_key id) (passwd_records files)
+      ((hash_script request files).passwd ++ edits)
+  kept-users id edits keep = none-meets passwd_format (has_key uid_key id)
+      ((hash_script request files).passwd ++ edits)
+      (all-append (AddsNone passwd_format (has_key uid_key id)) (hash_script request files).passwd
+      edits
+      (all-keys-keep passwd_format uid_key id (hash_script request files).passwd
+      (hash-quiet request files).passwd) keep)
+      (passwd_records files)
+
   -- the users, by the UID that is given
   users-by :
-      (id : ℕ) (given : Option ℕ)
+      (id : ℕ) (sets : Bool) (given : Option ℕ)
       → given_uid request ≡ given
       → (has_option (codes "o") request && is_given id given) ≡ false
       → option_and_then (λ uid. refuse_if (is_uid_taken request files uid) (UidInUse uid)) given
       ≡ None
-      → first_multiple passwd_format
-      ((hash_script request files).passwd
-      ++ each_where (is_named passwd_format (operand request)) (changed_user request files) ∷ [])
-      (passwd_records files) ≡ None
+      → first_multiple passwd_format (passwd_edits sets) (passwd_records files) ≡ None
       → EditsMeetNoMore passwd_format (has_key uid_key id) (passwd_records files)
-      ((hash_script request files).passwd
-      ++ each_where (is_named passwd_format (operand request)) (changed_user request files) ∷ [])
-  users-by id None is shares none single =
-      let edit = each_where (is_named passwd_format (operand request)) (changed_user request files)
-      in none-meets passwd_format (has_key uid_key id)
-      ((hash_script request files).passwd ++ edit ∷ [])
-      (all-append (AddsNone passwd_format (has_key uid_key id)) (hash_script request files).passwd
-      (edit ∷ [])
-      (all-keys-keep passwd_format uid_key id (hash_script request files).passwd
-      (hash-quiet request files).passwd) (
-        where-keep passwd_format uid_key id (is_named passwd_format (operand request))
-            (changed_user request files)
-            (λ r. ap (λ uid. unwrap_or uid r.uid) is),
-        tt,
-      ))
-      (passwd_records files)
-  users-by id (Some uid) is shares none single =
+      (passwd_edits sets)
+  users-by id false given is shares none single = kept-users id [] tt
+  users-by id true None is shares none single = kept-users id _ (
+    where-keep passwd_format uid_key id (is_named passwd_format (operand request))
+        (changed_user request files) (λ r. ap (λ uid. unwrap_or uid r.uid) is),
+    tt,
+  )
+  users-by id true (Some uid) is shares none single =
       set-meets passwd_format passwd-tells uid_key (operand request) uid
       (changed_user request files)
       (λ r. ap (λ new. unwrap_or new r.uid) is)
@@ -158,7 +164,8 @@ module _ (request : Request) (files : Files) where
       (hash_script request files).group _
       (all-keys-keep group_format gid_key id (hash_script request files).group
       (hash-quiet request files).group)
-      (each-keep group_format gid_key id (changed_group request files) (λ r. refl), tt)
+      (all-if _ (sets_lists request) _
+      (each-keep group_format gid_key id (changed_group request files) (λ r. refl)))
 
 -- usermod gives no UID to one more user, but where `-o` names it, leaves GIDs, and keeps ranges apart
 pub usermod-apart :
@@ -185,7 +192,8 @@ usermod-apart request files day none multiple written_uids written_gids =
     in record {
       uids = λ uid shares. stays-table passwd_format (has_key uid_key uid) files.passwd
           (usermod request files day).script.passwd
-          (users-by request files uid (given_uid request) refl shares passed.1.1.0
+          (users-by request files uid (sets_passwd request) (given_uid request) refl shares
+          passed.1.1.0
           (map-none (λ name. Multiple Passwd name) _ single.0));
       gids = λ gid shares. few-table group_format (has_key gid_key gid) files.group
           (usermod request files day).script.group

@@ -20,7 +20,7 @@ use Rattle.account_model.specs.UsermodRanges.{IdRange, RangeOwner, RangeChange, 
 use Rattle.account_model.proofs.FreeRangeLaws.{apart-is}
 use Rattle.account_model.proofs.SameLaws.{subid-tells}
 use Rattle.account_model.proofs.EditLines.{edited-lines, table-edited}
-use Rattle.account_model.proofs.UsermodRangeScripts.{IsOrdered}
+use Rattle.account_model.proofs.UsermodRangeScripts.{IsOrdered, before-all}
 use Rattle.ids_apart.specs.Holders.{has_number}
 use Rattle.ids_apart.proofs.Counts.{cond-le, cond-two, count-becomes, count-more, push-meets}
 use Rattle.ids_apart.proofs.HolderEdits.{AddsNone, EditsMeetNoMore, before-meets, each-adds-none}
@@ -291,7 +291,8 @@ ranges-stay number table owner change (Some text) removed added written none =
     in let same = records-after before text
     (all-front (IsWrittenEdit subid_format) before adds written)
     in before-meets subid_format (has_number number) before adds records
-    (rename-keeps number owner, cuts-keep number owner change.removed removed)
+    (before-all (AddsNone subid_format (has_number number)) owner change (rename-keeps number owner)
+    (cuts-keep number owner change.removed removed))
     (subst (λ (rs : List SubidRecord). EditsMeetNoMore subid_format (has_number number) rs adds) same
     (adds-stay number table owner change.added (edited_by subid_format before (lines_of text)) added
     (all-back (IsWrittenEdit subid_format) before adds written) none))

@@ -1,3 +1,2 @@
 pub mod ActingLemmas
-pub mod IdleLemmas
 pub mod OtherUsers

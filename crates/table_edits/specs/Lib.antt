@@ -2,5 +2,4 @@ pub mod SeenScript
 pub mod Acting
 pub mod Additions
 pub mod Deciding
-pub mod IdleEdits
 pub mod Stopping

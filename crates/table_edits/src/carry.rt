@@ -7,7 +7,6 @@ ghost use Rattle.table_edits.specs.Deciding.{CarriesAs};
 ghost use Rattle.table_edits.specs.SeenScript.{seen_script};
 
 use crate::Script;
-use crate::idle_edits::without_idle;
 use crate::multiple::first_multiple;
 use carried_tables::CarriedTables;
 use std::alloc::{AllocError, Global};
@@ -33,15 +32,15 @@ pub fn carry_out(
     Ok(())
 }
 
-// Makes the edits of each table, but for those that leave each record of it.
+// Makes the edits of each table.
 fn edit_tables(alloc: Global, tables: &mut CarriedTables, script: &Script) -> Result<(), AllocError>
     requires { IsWrittenScript (seen_script script.now) }
     ensures { OnOk result (tables.new ≡ files_after (seen_script script.now) tables.old) }
 {
     tables.edit(
         alloc,
-        without_idle(&script.passwd),
-        without_idle(&script.shadow),
+        &script.passwd,
+        &script.shadow,
         &script.group,
         &script.gshadow,
         &script.subuid,

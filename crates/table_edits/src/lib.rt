@@ -11,8 +11,7 @@
 //! hash where it stands, with the lines of shadow and gshadow that are made on demand, and `new_groups`
 //! a group with its hash.
 //! `carry_out` carries it out on the tables: it refuses where an edit touches one of several records of
-//! a name (`multiple`), and else edits them, but for a table whose edits are seen to leave all records
-//! (`idle_edits`).
+//! a name (`multiple`), and else edits them.
 #![tactic(auto)]
 
 mod carry;
@@ -20,7 +19,6 @@ mod given_groups;
 mod group_edits;
 mod group_hashes;
 mod groups;
-mod idle_edits;
 mod lookups;
 mod multiple;
 mod new_groups;

@@ -9,7 +9,6 @@ ghost use Rattle.table.specs.TableEdits.{AreWritten};
 ghost use Rattle.table_edits.specs.SeenScript.{seen_script};
 
 use crate::Script;
-use crate::idle_edits::{IdleRecord, leave_all_records};
 use account_model::Refusal;
 use acct_text::Tab;
 use carried_tables::CarriedTables;
@@ -42,8 +41,8 @@ pub(crate) fn first_multiple(
     multiple_in(alloc, Tab::Gshadow, tables.gshadow(), &script.gshadow)
 }
 
-// The same of one table. Where its edits surely leave each record, it isn't looked through.
-fn multiple_in<R: IdleRecord + KeyedRecord + Drop>(
+// The same of one table. Without edits it isn't looked through.
+fn multiple_in<R: KeyedRecord + Drop>(
     alloc: Global,
     tab: Tab,
     table: &Table<R>,
@@ -53,7 +52,7 @@ fn multiple_in<R: IdleRecord + KeyedRecord + Drop>(
     ensures { IfOk result (λ refusal. refusal ≡ multiple_in tab R.format
         (seen_edits R.becomes edits.now) (table_records R.format table.now)) }
 {
-    if leave_all_records(edits) {
+    if edits.is_empty() {
         return Ok(None);
     }
     match table.first_multiple(alloc, edits)? {

@@ -1,12 +1,12 @@
 // The fields of passwd and shadow (usermod(8), `-c`, `-d`, `-e`, `-f`, `-g`, `-l`, `-p`, `-s` and
 // `-u`; chfn(1), chsh(1)).
 ghost use Rattle.std.specs.Prelude.{◌≡◌, [], ◌∷◌, codes, IfOk, OnOk, option_and_then, unwrap_or};
-ghost use Rattle.account_model.specs.Edits.{each_where};
+ghost use Rattle.account_model.specs.Edits.{each_where, edit_if};
 ghost use Rattle.account_model.specs.Format.{is_named};
 ghost use Rattle.account_model.specs.Records.{passwd_format, shadow_format};
 ghost use Rattle.account_model.specs.Request.{operand, value_of};
 ghost use Rattle.account_model.specs.Tables.{no_edits};
-ghost use Rattle.account_model.specs.Usermod.{changed_shadow, changed_user};
+ghost use Rattle.account_model.specs.Usermod.{changed_shadow, changed_user, sets_passwd, sets_shadow};
 ghost use Rattle.account_model.specs.Values.{days_value, expiration_value};
 ghost use Rattle.line_edits.specs.ShadowChanges.{given_days};
 ghost use Rattle.table_edits.specs.Additions.{HasAlso};
@@ -14,13 +14,14 @@ ghost use Rattle.table_edits.specs.SeenScript.{seen_script};
 ghost use Rattle.user_changes.specs.Fields.{day_of_change, user_fields, SetsShadow};
 
 use crate::changes::new_name;
+use crate::hash::sets_aging;
 use acct_text::Bytes;
 use command_values::{Asked, read_days, read_expiration};
 use line_edits::{DaysChange, PasswdAct, ShadowAct, ShadowFields, UserFields};
 use std::alloc::{AllocError, Global};
 use table_edits::{Script, Tables, given_group};
 
-/// Sets the fields of passwd.
+/// Sets the fields of passwd, where an option gives one.
 pub(crate) fn write_passwd(
     alloc: Global,
     script: &mut Script,
@@ -29,16 +30,20 @@ pub(crate) fn write_passwd(
 ) -> Result<(), AllocError>
     ensures { OnOk result (HasAlso
         (record no_edits {
-          passwd = each_where (is_named passwd_format (operand asked.now))
-              (changed_user asked.now tables.now) ∷ [];
+          passwd = edit_if (sets_passwd asked.now)
+              (each_where (is_named passwd_format (operand asked.now))
+              (changed_user asked.now tables.now));
         })
         script.old script.new) }
 {
+    if !sets_passwd(asked) {
+        return Ok(());
+    }
     let fields = user_fields(alloc, asked, tables)?;
     script.change_user(alloc, asked.operand(), PasswdAct::SetFields(fields))
 }
 
-/// Sets the fields of shadow; `day` is that of a new password.
+/// Sets the fields of shadow, where an option gives one; `day` is that of a new password.
 pub(crate) fn write_shadow(
     alloc: Global,
     script: &mut Script,
@@ -47,13 +52,36 @@ pub(crate) fn write_shadow(
 ) -> Result<(), AllocError>
     ensures { OnOk result (HasAlso
         (record no_edits {
-          shadow = each_where (is_named shadow_format (operand asked.now))
-              (changed_shadow asked.now day) ∷ [];
+          shadow = edit_if (sets_shadow asked.now)
+              (each_where (is_named shadow_format (operand asked.now))
+              (changed_shadow asked.now day));
         })
         script.old script.new) }
 {
+    if !sets_shadow(asked) {
+        return Ok(());
+    }
     let fields = shadow_fields(alloc, asked, day)?;
     script.change_shadow(alloc, asked.operand(), ShadowAct::SetFields(fields))
+}
+
+// Whether an option gives a field of passwd.
+fn sets_passwd(asked: &Asked) -> bool
+    ensures { result ≡ sets_passwd asked.now }
+{
+    asked.has(b'c')
+        || asked.has(b'd')
+        || asked.has(b's')
+        || asked.has(b'u')
+        || asked.has(b'g')
+        || asked.has(b'l')
+}
+
+// Whether an option gives a field of shadow.
+fn sets_shadow(asked: &Asked) -> bool
+    ensures { result ≡ sets_shadow asked.now }
+{
+    sets_aging(asked) || asked.has(b'l') || asked.has(b'p')
 }
 
 // The fields of passwd that the options give.

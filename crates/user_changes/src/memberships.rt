@@ -1,8 +1,8 @@
 // The groups that a user joins and leaves, and the name in them (usermod(8), `-G`, `-a` and `-l`).
 ghost use Rattle.std.specs.Prelude.{◌≡◌, [], ◌∷◌, IfOk, OnOk};
-ghost use Rattle.account_model.specs.Edits.{each};
+ghost use Rattle.account_model.specs.Edits.{each, edit_if};
 ghost use Rattle.account_model.specs.Tables.{no_edits};
-ghost use Rattle.account_model.specs.Usermod.{changed_group, changed_gshadow};
+ghost use Rattle.account_model.specs.Usermod.{changed_group, changed_gshadow, sets_lists};
 ghost use Rattle.table_edits.specs.Additions.{HasAlso};
 ghost use Rattle.user_changes.specs.Memberships.{group_edit, gshadow_edit, membership, user_groups};
 
@@ -15,7 +15,7 @@ use line_edits::{
 use std::alloc::{AllocError, Global};
 use table_edits::{Script, Tables, group_names};
 
-/// Changes the lists of all groups, in group and in gshadow.
+/// Changes the lists of all groups, in group and in gshadow, where an option asks for it.
 pub(crate) fn write_memberships(
     alloc: Global,
     script: &mut Script,
@@ -24,14 +24,24 @@ pub(crate) fn write_memberships(
 ) -> Result<(), AllocError>
     ensures { OnOk result (HasAlso
         (record no_edits {
-          group = each (changed_group asked.now tables.now) ∷ [];
-          gshadow = each (changed_gshadow asked.now tables.now) ∷ [];
+          group = edit_if (sets_lists asked.now) (each (changed_group asked.now tables.now));
+          gshadow = edit_if (sets_lists asked.now) (each (changed_gshadow asked.now tables.now));
         })
         script.old script.new) }
 {
+    if !sets_lists(asked) {
+        return Ok(());
+    }
     let names = group_names(alloc, asked, tables)?;
     write_groups(alloc, script, asked, &names)?;
     write_gshadow(alloc, script, asked, &names)
+}
+
+// Whether an option changes the lists.
+fn sets_lists(asked: &Asked) -> bool
+    ensures { result ≡ sets_lists asked.now }
+{
+    asked.has(b'G') || asked.has(b'l')
 }
 
 // Changes the members of all groups in group, of which `-G` names these.

@@ -5,7 +5,7 @@ ghost use Rattle.account_model.specs.Edits.Edit.{Add, Become};
 ghost use Rattle.account_model.specs.Tables.{no_edits};
 ghost use Rattle.account_model.specs.Request.{operand};
 ghost use Rattle.account_model.specs.Usermod.{new_name, range_owner, subgid_change, subuid_change};
-ghost use Rattle.account_model.specs.UsermodRanges.{add_range, change_asked, cut_range, edits_before_adding, range_edits};
+ghost use Rattle.account_model.specs.UsermodRanges.{add_range, change_asked, cut_range, edits_before_adding, range_edits, renaming};
 ghost use Rattle.account_model.specs.Users.{uid_of};
 ghost use Rattle.account_model.specs.Written.{IsNameField};
 ghost use Rattle.command_values.specs.Ranges.{ids_named};
@@ -39,8 +39,8 @@ pub(crate) struct UserRanges {
     pub added: Vec<IdRange>,
 }
 
-/// Renames the owner in subuid and subgid, and changes the ranges there. `old_uid` is
-/// the user's UID so far.
+/// Renames the owner in subuid and subgid, where `-l` gives another name, and changes the ranges there.
+/// `old_uid` is the user's UID so far.
 pub(crate) fn write_ranges(
     alloc: Global,
     script: &mut Script,
@@ -117,7 +117,7 @@ impl UserRanges {
         self.push_additions(edits)
     }
 
-    /// Adds the renaming of the owner, and then the removals of IDs.
+    /// Adds the renaming of an owner that gets another name, and then the removals of IDs.
     pub(crate) fn push_removals(
         &self,
         alloc: Global,
@@ -127,11 +127,26 @@ impl UserRanges {
             ≡ seen_edits subid_becomes edits.old.items
             ++ edits_before_adding (owner_of self.now) (change_of self.now)) }
     {
-        let change = SubidChange::Rename(self.old_name.copy()?, self.new_name.copy()?);
-        edits.push(Edit::Become(change))?;
+        self.push_renaming(edits)?;
         for ids in &self.removed {
             edits.push(Edit::Become(self.cut(ids)?))?;
         }
+        Ok(())
+    }
+
+    // Adds the renaming of an owner that gets another name.
+    fn push_renaming(
+        &self,
+        edits: &mut Vec<Edit<SubidRecord, SubidChange>>,
+    ) -> Result<(), AllocError>
+        ensures { OnOk result (seen_edits subid_becomes edits.new.items
+            ≡ seen_edits subid_becomes edits.old.items ++ renaming (owner_of self.now)) }
+    {
+        if self.old_name.as_slice() == self.new_name.as_slice() {
+            return Ok(());
+        }
+        let change = SubidChange::Rename(self.old_name.copy()?, self.new_name.copy()?);
+        edits.push(Edit::Become(change))?;
         Ok(())
     }
 

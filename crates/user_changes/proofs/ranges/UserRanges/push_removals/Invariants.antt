@@ -1,5 +1,5 @@
-use Rattle.std.proofs.Common.{◌≡◌, ◌∷◌, ◌++◌, map, take}
-use Rattle.account_model.specs.UsermodRanges.{cut_range, rename_owner}
+use Rattle.std.proofs.Common.{◌≡◌, ◌++◌, map, take}
+use Rattle.account_model.specs.UsermodRanges.{cut_range, renaming}
 use Rattle.command_values.specs.Ranges.{ids_named}
 use Rattle.line_edits.specs.SeenEdits.{seen_edits}
 use Rattle.line_edits.specs.SubidChanges.{subid_becomes}
@@ -11,5 +11,5 @@ abbrev pub invariant-loop-ids : goal.invariant-loop-ids
 invariant-loop-ids l =
     seen_edits subid_becomes l.edits.items
     ≡ seen_edits subid_becomes l.fn.edits.items
-    ++ rename_owner (owner_of l.self)
-    ∷ map (cut_range (owner_of l.self)) (map ids_named (take l.ids-index l.ids-items))
+    ++ (renaming (owner_of l.self)
+    ++ map (cut_range (owner_of l.self)) (map ids_named (take l.ids-index l.ids-items)))
