@@ -5,7 +5,7 @@ ghost use Rattle.account_model.specs.declared.records.PasswdRecord.{PasswdRecord
 ghost use Rattle.line_edits.specs.PasswdChanges.{passwd_after, with_user_fields};
 
 use crate::fields::{fourth_field, has_other_name, set_given};
-use crate::{Becoming, ChangedNames, EditedRecord, HashChange, PrimaryGroup, Rewritten};
+use crate::{Becoming, ChangedNames, EditedRecord, HashChange, PrimaryGroup};
 use account_model::GREATEST_ID;
 use acct_lines::{PasswdRecord, TableRecord};
 use acct_tables::Marks;
@@ -92,14 +92,6 @@ impl EditedRecord for PasswdRecord {
             _ => return Ok(Becoming::Stays),
         }
         Ok(Becoming::Changes(self))
-    }
-
-    fn rewritten(
-        _alloc: Global,
-        _change: &PasswdChange,
-        _line: &[u8],
-    ) -> Result<Option<Rewritten>, AllocError> {
-        Ok(None)
     }
 
     fn leaves(change: &PasswdChange, line: &[u8]) -> bool {

@@ -6,7 +6,7 @@ ghost use Rattle.acct_lines.specs.DaysValues.{days_held};
 ghost use Rattle.line_edits.specs.ShadowChanges.{given_days, shadow_after, with_shadow_fields};
 
 use crate::fields::{has_other_name, set_given};
-use crate::{Becoming, ChangedNames, EditedRecord, HashChange, Rewritten};
+use crate::{Becoming, ChangedNames, EditedRecord, HashChange};
 use acct_lines::{DaysValue, ShadowLine, ShadowRecord, TableRecord};
 use acct_tables::Marks;
 use acct_text::Bytes;
@@ -136,14 +136,6 @@ impl EditedRecord for ShadowRecord {
             _ => return Ok(Becoming::Stays),
         }
         Ok(Becoming::Changes(self))
-    }
-
-    fn rewritten(
-        _alloc: Global,
-        _change: &ShadowChange,
-        _line: &[u8],
-    ) -> Result<Option<Rewritten>, AllocError> {
-        Ok(None)
     }
 
     fn leaves(change: &ShadowChange, line: &[u8]) -> bool {
