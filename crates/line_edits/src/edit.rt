@@ -63,12 +63,15 @@ pub trait EditedRecord: TableRecord {
     /// The canonical texts of the record that the line is, before and after the change, where the
     /// parts of the line tell them; none where they don't, and where the line is no record.
     fn rewritten(
-        alloc: Global,
-        change: &Self::Change,
-        line: &[u8],
+        _alloc: Global,
+        _change: &Self::Change,
+        _line: &[u8],
     ) -> Result<Option<Rewritten>, AllocError>
         ensures { IfOk result (λ texts. IfSome texts
-            (IsRewritten Self.format (becomes change.now) line.now)) };
+            (IsRewritten Self.format (becomes _change.now) _line.now)) }
+    {
+        Ok(None)
+    }
 
     /// Whether the change surely leaves the record that the line is, if it is one, by what can be seen
     /// without memory.

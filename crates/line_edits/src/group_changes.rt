@@ -1,11 +1,10 @@
 // What the tools do with records of group (group(5)).
-ghost use Rattle.std.specs.Prelude.{◌≡◌, ℕ, List, true, Some, IfOk, IfSome, OnOk};
+ghost use Rattle.std.specs.Prelude.{◌≡◌, ℕ, List, true, Some, IfSome, OnOk};
 ghost use Rattle.account_model.specs.Records.{group_format};
 ghost use Rattle.account_model.specs.Text.{is_listed};
 ghost use Rattle.account_model.specs.declared.records.GroupRecord.{GroupRecord};
 ghost use Rattle.acct_tables.specs.Marks.{IsWithoutAll, marks_in};
 ghost use Rattle.line_edits.specs.GroupChanges.{group_after, group_becomes};
-ghost use Rattle.line_edits.specs.Memberships.{group_by};
 ghost use Rattle.line_edits.specs.Naming.{TouchesOnly, names_in};
 ghost use Rattle.line_edits.specs.declared.group_changes.GroupChange.TheVariants.{All};
 
@@ -56,15 +55,22 @@ impl EditedRecord for GroupRecord {
 
     ghost becomes = { group_becomes };
 
-    fn becoming(self, alloc: Global, change: &GroupChange) -> Result<Becoming<Self>, AllocError> {
+    fn becoming(
+        mut self,
+        alloc: Global,
+        change: &GroupChange,
+    ) -> Result<Becoming<Self>, AllocError> {
         match change {
             GroupChange::Named(name, act) if self.name() == name.as_slice() => {
-                Ok(Becoming::Changes(acted(alloc, self, act)?))
+                act_on(alloc, &mut self, act)?;
             }
-            GroupChange::All(act) => Ok(Becoming::Changes(acted(alloc, self, act)?)),
-            GroupChange::Remove(name) if self.name() == name.as_slice() => Ok(Becoming::Goes),
-            _ => Ok(Becoming::Stays),
+            GroupChange::All(act) => act_on(alloc, &mut self, act)?,
+            GroupChange::Remove(name) if self.name() == name.as_slice() => return Ok(
+                Becoming::Goes,
+            ),
+            _ => return Ok(Becoming::Stays),
         }
+        Ok(Becoming::Changes(self))
     }
 
     fn rewritten(
@@ -154,14 +160,6 @@ fn has_member(line: &[u8], user: &[u8]) -> bool
     lists(fourth_field(line), user)
 }
 
-// The record after the act.
-fn acted(alloc: Global, mut group: GroupRecord, act: &GroupAct) -> Result<GroupRecord, AllocError>
-    ensures { IfOk result (λ new. new ≡ group_after act.now group) }
-{
-    act_on(alloc, &mut group, act)?;
-    Ok(group)
-}
-
 // Does the act with the record. At `AllocError` a user who joins may have the old name in it.
 fn act_on(alloc: Global, group: &mut GroupRecord, act: &GroupAct) -> Result<(), AllocError>
     ensures { OnOk result (group.new ≡ group_after act.now group.old) }
@@ -175,20 +173,10 @@ fn act_on(alloc: Global, group: &mut GroupRecord, act: &GroupAct) -> Result<(), 
             return remove_name(alloc, &mut group.members, user.as_slice());
         }
         GroupAct::SetMembers(members) => group.members = members.copy()?,
-        GroupAct::SetMembership(membership) => return set_membership(alloc, group, membership),
+        GroupAct::SetMembership(membership) => {
+            membership.join_or_leave(alloc, group.name.as_slice(), &mut group.members)?;
+            return membership.rename_in(alloc, group);
+        }
     }
     Ok(())
-}
-
-// The user joins or leaves the group, and has the new name in it. At `AllocError` the members may
-// have the old name still.
-fn set_membership(
-    alloc: Global,
-    group: &mut GroupRecord,
-    membership: &Membership,
-) -> Result<(), AllocError>
-    ensures { OnOk result (group.new ≡ group_by membership.now group.old) }
-{
-    membership.join_or_leave(alloc, group.name.as_slice(), &mut group.members)?;
-    membership.rename_in(alloc, group)
 }

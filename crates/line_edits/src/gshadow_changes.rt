@@ -1,11 +1,10 @@
 // What the tools do with records of gshadow (gshadow(5)).
-ghost use Rattle.std.specs.Prelude.{◌≡◌, ◌||◌, ℕ, List, true, Some, IfOk, IfSome, OnOk};
+ghost use Rattle.std.specs.Prelude.{◌≡◌, ◌||◌, ℕ, List, true, Some, IfSome, OnOk};
 ghost use Rattle.account_model.specs.declared.records.GshadowRecord.{GshadowRecord};
 ghost use Rattle.account_model.specs.Records.{gshadow_format};
 ghost use Rattle.account_model.specs.Text.{is_listed};
 ghost use Rattle.acct_tables.specs.Marks.{IsWithoutAll, marks_in};
-ghost use Rattle.line_edits.specs.GshadowChanges.{gshadow_after, gshadow_becomes, without_user};
-ghost use Rattle.line_edits.specs.Memberships.{gshadow_by};
+ghost use Rattle.line_edits.specs.GshadowChanges.{gshadow_after, gshadow_becomes};
 ghost use Rattle.line_edits.specs.Naming.{TouchesOnly, names_in};
 ghost use Rattle.line_edits.specs.declared.gshadow_changes.GshadowChange.TheVariants.{All};
 
@@ -58,15 +57,22 @@ impl EditedRecord for GshadowRecord {
 
     ghost becomes = { gshadow_becomes };
 
-    fn becoming(self, alloc: Global, change: &GshadowChange) -> Result<Becoming<Self>, AllocError> {
+    fn becoming(
+        mut self,
+        alloc: Global,
+        change: &GshadowChange,
+    ) -> Result<Becoming<Self>, AllocError> {
         match change {
             GshadowChange::Named(name, act) if self.name() == name.as_slice() => {
-                Ok(Becoming::Changes(acted(alloc, self, act)?))
+                act_on(alloc, &mut self, act)?;
             }
-            GshadowChange::All(act) => Ok(Becoming::Changes(acted(alloc, self, act)?)),
-            GshadowChange::Remove(name) if self.name() == name.as_slice() => Ok(Becoming::Goes),
-            _ => Ok(Becoming::Stays),
+            GshadowChange::All(act) => act_on(alloc, &mut self, act)?,
+            GshadowChange::Remove(name) if self.name() == name.as_slice() => return Ok(
+                Becoming::Goes,
+            ),
+            _ => return Ok(Becoming::Stays),
         }
+        Ok(Becoming::Changes(self))
     }
 
     fn rewritten(
@@ -156,18 +162,6 @@ fn has_user(line: &[u8], user: &[u8]) -> bool
     lists(third_field(line), user) || lists(fourth_field(line), user)
 }
 
-// The record after the act.
-fn acted(
-    alloc: Global,
-    mut group: GshadowRecord,
-    act: &GshadowAct,
-) -> Result<GshadowRecord, AllocError>
-    ensures { IfOk result (λ new. new ≡ gshadow_after act.now group) }
-{
-    act_on(alloc, &mut group, act)?;
-    Ok(group)
-}
-
 // Does the act with the record. At `AllocError` the user may have left one list alone.
 fn act_on(alloc: Global, group: &mut GshadowRecord, act: &GshadowAct) -> Result<(), AllocError>
     ensures { OnOk result (group.new ≡ gshadow_after act.now group.old) }
@@ -181,29 +175,14 @@ fn act_on(alloc: Global, group: &mut GshadowRecord, act: &GshadowAct) -> Result<
             return remove_name(alloc, &mut group.members, user.as_slice());
         }
         GshadowAct::SetMembers(members) => group.members = members.copy()?,
-        GshadowAct::RemoveUser(user) => return remove_user(alloc, group, user.as_slice()),
-        GshadowAct::SetMembership(membership) => return set_membership(alloc, group, membership),
+        GshadowAct::RemoveUser(user) => {
+            remove_name(alloc, &mut group.administrators, user.as_slice())?;
+            return remove_name(alloc, &mut group.members, user.as_slice());
+        }
+        GshadowAct::SetMembership(membership) => {
+            membership.join_or_leave(alloc, group.name.as_slice(), &mut group.members)?;
+            return membership.rename_in(alloc, group);
+        }
     }
     Ok(())
-}
-
-// Removes the user from either list. At `AllocError` it may have left one of them.
-fn remove_user(alloc: Global, group: &mut GshadowRecord, user: &[u8]) -> Result<(), AllocError>
-    ensures { OnOk result (group.new ≡ without_user user.now group.old) }
-{
-    remove_name(alloc, &mut group.administrators, user)?;
-    remove_name(alloc, &mut group.members, user)
-}
-
-// The user joins or leaves the group, and has the new name in it. At `AllocError` the members may
-// have the old name still.
-fn set_membership(
-    alloc: Global,
-    group: &mut GshadowRecord,
-    membership: &Membership,
-) -> Result<(), AllocError>
-    ensures { OnOk result (group.new ≡ gshadow_by membership.now group.old) }
-{
-    membership.join_or_leave(alloc, group.name.as_slice(), &mut group.members)?;
-    membership.rename_in(alloc, group)
 }

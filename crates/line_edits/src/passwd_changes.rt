@@ -1,11 +1,11 @@
 // What the tools do with records of passwd (passwd(5)).
-ghost use Rattle.std.specs.Prelude.{◌≡◌, ◌==◌, Some, IfOk, OnOk};
+ghost use Rattle.std.specs.Prelude.{◌≡◌, ◌==◌, Some, OnOk};
 ghost use Rattle.account_model.specs.Records.{passwd_format};
 ghost use Rattle.account_model.specs.declared.records.PasswdRecord.{PasswdRecord};
 ghost use Rattle.line_edits.specs.PasswdChanges.{passwd_after, with_user_fields};
 
 use crate::fields::{fourth_field, has_other_name, set_given};
-use crate::{Becoming, ChangedNames, EditedRecord, HashChange, PrimaryGroup, Rewritten};
+use crate::{Becoming, ChangedNames, EditedRecord, HashChange, PrimaryGroup};
 use account_model::GREATEST_ID;
 use acct_lines::{PasswdRecord, TableRecord};
 use acct_tables::Marks;
@@ -74,25 +74,24 @@ impl EditedRecord for PasswdRecord {
 
     ghost becomes = { passwd_becomes };
 
-    fn becoming(self, alloc: Global, change: &PasswdChange) -> Result<Becoming<Self>, AllocError> {
+    fn becoming(
+        mut self,
+        alloc: Global,
+        change: &PasswdChange,
+    ) -> Result<Becoming<Self>, AllocError> {
         match change {
             PasswdChange::Named(name, act) if self.name() == name.as_slice() => {
-                Ok(Becoming::Changes(acted(alloc, self, act)?))
+                act_on(alloc, &mut self, act)?;
             }
             PasswdChange::OfGroup(group, act) if self.gid == group.gid() => {
-                Ok(Becoming::Changes(acted(alloc, self, act)?))
+                act_on(alloc, &mut self, act)?;
             }
-            PasswdChange::Remove(name) if self.name() == name.as_slice() => Ok(Becoming::Goes),
-            _ => Ok(Becoming::Stays),
+            PasswdChange::Remove(name) if self.name() == name.as_slice() => return Ok(
+                Becoming::Goes,
+            ),
+            _ => return Ok(Becoming::Stays),
         }
-    }
-
-    fn rewritten(
-        _alloc: Global,
-        _change: &PasswdChange,
-        _line: &[u8],
-    ) -> Result<Option<Rewritten>, AllocError> {
-        Ok(None)
+        Ok(Becoming::Changes(self))
     }
 
     fn leaves(change: &PasswdChange, line: &[u8]) -> bool {
@@ -131,14 +130,6 @@ fn has_gid(line: &[u8], gid: u32) -> bool
         Ok(found) => found == u64::from(gid),
         Err(_) => false,
     }
-}
-
-// The record after the act.
-fn acted(alloc: Global, mut user: PasswdRecord, act: &PasswdAct) -> Result<PasswdRecord, AllocError>
-    ensures { IfOk result (λ new. new ≡ passwd_after act.now user) }
-{
-    act_on(alloc, &mut user, act)?;
-    Ok(user)
 }
 
 // Does the act with the record. At `AllocError` it may have some of the fields that are given.

@@ -1,12 +1,12 @@
 // What the tools do with records of shadow (shadow(5)).
-ghost use Rattle.std.specs.Prelude.{◌≡◌, true, None, Some, IfOk, OnOk, option_map, unwrap_or};
+ghost use Rattle.std.specs.Prelude.{◌≡◌, true, None, Some, OnOk, option_map, unwrap_or};
 ghost use Rattle.account_model.specs.Records.{shadow_format};
 ghost use Rattle.account_model.specs.declared.records.ShadowRecord.{ShadowRecord};
 ghost use Rattle.acct_lines.specs.DaysValues.{days_held};
 ghost use Rattle.line_edits.specs.ShadowChanges.{given_days, shadow_after, with_shadow_fields};
 
 use crate::fields::{has_other_name, set_given};
-use crate::{Becoming, ChangedNames, EditedRecord, HashChange, Rewritten};
+use crate::{Becoming, ChangedNames, EditedRecord, HashChange};
 use acct_lines::{DaysValue, ShadowLine, ShadowRecord, TableRecord};
 use acct_tables::Marks;
 use acct_text::Bytes;
@@ -121,22 +121,21 @@ impl EditedRecord for ShadowRecord {
 
     ghost becomes = { shadow_becomes };
 
-    fn becoming(self, alloc: Global, change: &ShadowChange) -> Result<Becoming<Self>, AllocError> {
+    fn becoming(
+        mut self,
+        alloc: Global,
+        change: &ShadowChange,
+    ) -> Result<Becoming<Self>, AllocError> {
         match change {
             ShadowChange::Named(name, act) if self.name() == name.as_slice() => {
-                Ok(Becoming::Changes(acted(alloc, self, act)?))
+                act_on(alloc, &mut self, act)?;
             }
-            ShadowChange::Remove(name) if self.name() == name.as_slice() => Ok(Becoming::Goes),
-            _ => Ok(Becoming::Stays),
+            ShadowChange::Remove(name) if self.name() == name.as_slice() => return Ok(
+                Becoming::Goes,
+            ),
+            _ => return Ok(Becoming::Stays),
         }
-    }
-
-    fn rewritten(
-        _alloc: Global,
-        _change: &ShadowChange,
-        _line: &[u8],
-    ) -> Result<Option<Rewritten>, AllocError> {
-        Ok(None)
+        Ok(Becoming::Changes(self))
     }
 
     fn leaves(change: &ShadowChange, line: &[u8]) -> bool {
@@ -198,14 +197,6 @@ fn are_same(one: &ShadowAct, other: &ShadowAct) -> bool
         (ShadowAct::SetLastChange(day), ShadowAct::SetLastChange(again)) => *day == *again,
         _ => false,
     }
-}
-
-// The record after the act.
-fn acted(alloc: Global, mut user: ShadowRecord, act: &ShadowAct) -> Result<ShadowRecord, AllocError>
-    ensures { IfOk result (λ new. new ≡ shadow_after act.now user) }
-{
-    act_on(alloc, &mut user, act)?;
-    Ok(user)
 }
 
 // Does the act with the record. At `AllocError` it may have some of the days that are given.

@@ -7,7 +7,7 @@ ghost use Rattle.account_model.specs.Written.{IsWritten};
 ghost use Rattle.line_edits.specs.SeenEdits.{records_in};
 
 use crate::fields::has_other_name;
-use crate::{Becoming, ChangedNames, EditedRecord, Rewritten};
+use crate::{Becoming, ChangedNames, EditedRecord};
 use acct_lines::{SubidRecord, TableRecord, first_field};
 use acct_tables::{Marks, is_owned, is_owner, last_id};
 use acct_text::Bytes;
@@ -62,14 +62,6 @@ impl EditedRecord for SubidRecord {
             }
             _ => Ok(Becoming::Stays),
         }
-    }
-
-    fn rewritten(
-        _alloc: Global,
-        _change: &SubidChange,
-        _line: &[u8],
-    ) -> Result<Option<Rewritten>, AllocError> {
-        Ok(None)
     }
 
     fn leaves(change: &SubidChange, line: &[u8]) -> bool {
