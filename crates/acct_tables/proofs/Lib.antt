@@ -1,5 +1,4 @@
 pub mod RecordLines
-pub mod LinesHere
 pub mod RenamingLemmas
 pub mod LinesAhead
 pub mod EditedFiles
