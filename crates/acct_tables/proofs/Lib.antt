@@ -4,7 +4,6 @@ pub mod LinesAhead
 pub mod EditedFiles
 pub mod LinesCounted
 pub mod NameIndexLemmas
-pub mod FirstRecords
 pub mod NamedRecords
 pub mod MarkLemmas
 pub mod FrontLines
