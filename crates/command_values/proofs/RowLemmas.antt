@@ -1,6 +1,7 @@
--- Claim: what words ask for keeps the row of its tool (`asks-keeps_row`). Way: each way to spell an option tells its row of the tool's table, by its letter or by its long name,
--- and no two rows of a tool have one letter (`letters-apart`). The rows of the folder count for
--- nothing among options without it.
+-- Claim: what words ask for keeps the row of its tool (`asks-keeps_row`). Way: each way to spell an
+-- option tells its row of the tool's table, by its letter or by its long name, and no two rows of a
+-- tool have one letter (`letters-apart`). The rows of the folder count for nothing among options
+-- without it.
 use Rattle.std.proofs.Common.{◌≡◌, ℕ, Bool, true, false, ◌==◌, List, [], ◌∷◌, refl, sym, subst, ◌∙◌, inl, inr, eq-eqb}
 use Rattle.std.specs.Prelude.{◌||◌, Some, find, is_some}
 use Rattle.std.specs.List.{AllByRecursion, list_any}
