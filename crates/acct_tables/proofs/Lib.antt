@@ -1,11 +1,9 @@
 pub mod RecordLines
-pub mod LinesHere
 pub mod RenamingLemmas
 pub mod LinesAhead
 pub mod EditedFiles
 pub mod LinesCounted
 pub mod NameIndexLemmas
-pub mod FirstRecords
 pub mod NamedRecords
 pub mod MarkLemmas
 pub mod FrontLines

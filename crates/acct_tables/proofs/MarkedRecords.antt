@@ -1,6 +1,6 @@
 -- Claim: what is found and counted by a name among the records of a text is so among those behind
 -- lines that are no records of the name (`behind-found`, `behind-counted`), as a text from the name
--- on is (`marked-behind`, `marked-counted`). Way: a record's line begins with its name
+-- on is (`marked-behind`). Way: a record's line begins with its name
 -- (`holds-name`), so a line without the name is no record of it (`unnamed`).
 use Rattle.std.proofs.Common.{◌≡◌, ◌∙◌, ℕ, ◌+◌, ◌<◌, false, inl, inr, List, [], ◌∷◌, ◌++◌, length, refl, sym, ap, subst, lt_irrefl, append-nil, zero-add}
 use Rattle.std.specs.Prelude.{Option, Some, None, if◌then◌else◌}
@@ -117,12 +117,3 @@ module _ {R : Type 0} (format : Format R) (names_first : NamesFirst format) wher
     marked-behind text rest from =
         behind-weaker (IsWithout name) (IsOther format name) unnamed text rest
         (mark-behind name text rest from)
-
-    -- as many records have the name from there on as in all
-    pub marked-counted :
-        (text rest : List ℕ)
-        → IsFromMark name text rest
-        → count_named format name (records_of format (lines_of rest))
-        ≡ count_named format name (records_of format (lines_of text))
-    marked-counted text rest from =
-        behind-counted format name text rest (marked-behind text rest from)

@@ -1,56 +1,16 @@
--- Claim: what is told of a name among the lines of a table is what is so among their records: how many
--- they are (`told-count`), and so whether one has it or several do (`told-has`, `told-several`), and whether one in front of a line does
--- (`told-before`). Way: line by line, where a line is a record of the name by its own name.
-use Rattle.std.proofs.Common.{◌≡◌, ℕ, ◌+◌, ◌<◌, Bool, true, false, List, [], ◌∷◌, ◌++◌, length, zero-add, arith, refl, sym, ◌∙◌, ap, ap₂, cond, if◌then◌else◌}
-use Rattle.std.specs.Prelude.{Option, Some, None, count_by, is_some, nat_le, nat_lt, option_map}
+-- Claim: what is told of a name among the lines of a table is what is so among their records: whether
+-- one has it (`told-has`), and whether one in front of a line does (`told-before`). Way: line by line.
+use Rattle.std.proofs.Common.{◌≡◌, ℕ, ◌+◌, ◌<◌, Bool, true, false, List, [], ◌∷◌, ◌++◌, length, zero-add, arith, refl, sym, ◌∙◌, ap, if◌then◌else◌}
+use Rattle.std.specs.Prelude.{Option, Some, None, count_by, is_some, nat_lt, option_map}
 use Rattle.std.specs.List.{cons_option, position_from}
 use Rattle.std.proofs.lemmas.Bool.{le-ltb, lt-ltb}
 use Rattle.std.proofs.lemmas.List.{length-map, map-append}
-use Rattle.std.proofs.lemmas.List.Sums.{sum_by-cons}
 use Rattle.std.proofs.lemmas.Slice.Eq.{bytes_eq-Decides}
 use Rattle.acct_text.specs.Lines.{Line}
-use Rattle.account_model.specs.Format.{Format, count_named, find_named, has_named, is_named, records_of}
-use Rattle.acct_tables.specs.NameIndex.{are_several, begins_before, has_name, line_name, line_names, lines_named, records_at}
-use Rattle.acct_tables.specs.TableLines.{line_is_named}
-use Rattle.acct_tables.proofs.FirstRecords.{found-at, record_of}
-use Rattle.acct_tables.proofs.NameIndexLemmas.{none-counts}
-use Rattle.acct_tables.proofs.RecordLines.{counted-by}
+use Rattle.account_model.specs.Format.{Format, find_named, has_named, is_named, records_of}
+use Rattle.acct_tables.specs.NameIndex.{begins_before, has_name, line_name, line_names, lines_named, records_at}
 
 module _ {R : Type 0} (format : Format R) (name : List ℕ) where
-  -- by what the line reads as
-  named-by :
-      (kept : Option R)
-      → has_name name (option_map format.name kept)
-      ≡ (elim kept [ None ↦ false | Some r ↦ is_named format name r ])
-  named-by None = refl
-  named-by (Some r) = refl
-
-  -- a line is a record of the name where its own name is that
-  named-line : (line : Line) →
-      has_name name (line_name format line) ≡ line_is_named format name line
-  named-line line = named-by (format.read line.text)
-
-  -- as many lines have the name as records
-  pub told-count :
-      (lines : List Line)
-      → count_by (has_name name) (line_names format lines)
-      ≡ count_named format name (records_of format lines)
-  told-count [] = refl
-  told-count (line ∷ rest) =
-      sum_by-cons (λ x. cond (has_name name x) 1 0) (line_name format line) (line_names format rest)
-      ∙ ap₂ (λ test count. cond test 1 0 + count) (named-line line) (told-count rest)
-      ∙ sym (counted-by format name (format.read line.text) (records_of format rest))
-
-  -- the first line of the name is the first that is a record of it
-  pub told-place :
-      (lines : List Line) (start : ℕ)
-      → position_from (has_name name) start (line_names format lines)
-      ≡ position_from (line_is_named format name) start lines
-  told-place [] start = refl
-  told-place (line ∷ rest) start =
-      ap₂ (λ test behind. if test then Some start else behind) (named-line line)
-      (told-place rest (start + 1))
-
   -- by what the first line reads as, and whether it has the name
   has-by :
       (start : ℕ) (behind : Option ℕ) (r : R) (found : Option R) (named : Bool)
@@ -84,40 +44,6 @@ module _ {R : Type 0} (format : Format R) (name : List ℕ) where
     -- the names of the lines
     abbrev names : List (Option (List ℕ))
     names = line_names format lines
-
-    -- the first line of the name has its first record
-    found-there :
-        find_named format name (records_of format lines)
-        ≡ record_of format lines (position_from (has_name name) 0 names)
-    found-there =
-        found-at format (is_named format name) lines
-        ∙ ap (record_of format lines) (sym (told-place lines 0))
-
-    -- nothing is told, by whether there is a first line
-    none-told :
-        (first : Option ℕ) (count : ℕ) (found : Option R)
-        → found ≡ record_of format lines first
-        → records_at first count ≡ None
-        → found ≡ None
-    none-told None count found is none = is
-    none-told (Some place) count found is none = absurd cc
-
-    -- several, by whether there is a first line
-    several-by :
-        (first : Option ℕ) (count : ℕ)
-        → (first ≡ None → count ≡ 0)
-        → are_several (records_at first count) ≡ nat_le 2 count
-    several-by None count none = ap (nat_le 2) (sym (none refl))
-    several-by (Some first) count none = refl
-
-    -- several are told where several records have the name
-    pub told-several :
-        are_several (lines_named name names)
-        ≡ nat_le 2 (count_named format name (records_of format lines))
-    told-several =
-        several-by (position_from (has_name name) 0 names) (count_by (has_name name) names)
-        (none-counts (has_name name) 0 names)
-        ∙ ap (nat_le 2) (told-count lines)
 
     -- something, by whether there is a first line
     some-told : (first : Option ℕ) (count : ℕ) → is_some (records_at first count) ≡ is_some first

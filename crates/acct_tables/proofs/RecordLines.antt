@@ -1,35 +1,14 @@
--- Claim: the records behind a place are those behind the next, with the record of the line there
--- (`records-from`), so what is found and counted among the records is found and counted line by
--- line (`met-by`, `passed-by`, `counted-by`), or place by place (`counted-as`, `counted-past`).
-use Rattle.std.proofs.Common.{◌≡◌, ℕ, ◌+◌, ◌<◌, Bool, true, false, List, ◌∷◌, length, drop, get_or, refl, sym, ◌∙◌, ap, zero-add}
+-- Claim: what is found and counted among the records is found and counted line by line (`met-by`,
+-- `passed-by`, `counted-by`, `counted-next`).
+use Rattle.std.proofs.Common.{◌≡◌, ℕ, ◌+◌, Bool, true, false, List, ◌∷◌, refl, sym, ◌∙◌, ap, zero-add}
 use Rattle.std.specs.Prelude.{Option, Some, None, is_some, if◌then◌else◌}
 use Rattle.std.specs.List.{cons_option}
-use Rattle.std.proofs.lemmas.List.{drop_more}
 use Rattle.std.proofs.lemmas.List.Sums.{sum_by-cons}
 use Rattle.acct_text.specs.Lines.{Line}
 use Rattle.account_model.specs.Format.{Format, records_of, is_named, find_named, count_named}
 use Rattle.acct_tables.specs.TableLines.{text_is_named}
 
--- the lines from a place on begin with the line there
-pub lines-from :
-    (lines : List Line) (place : ℕ) (line : Line)
-    → place < length lines
-    → line ≡ get_or lines place line
-    → drop place lines ≡ line ∷ drop (place + 1) lines
-lines-from lines place line inside is =
-    drop_more lines place line inside ∙ ap (λ l. l ∷ drop (place + 1) lines) (sym is)
-
 module _ {R : Type 0} (format : Format R) (name : List ℕ) where
-  -- the records from a place on begin with that of the line there
-  pub records-from :
-      (lines : List Line) (place : ℕ) (line : Line)
-      → place < length lines
-      → line ≡ get_or lines place line
-      → records_of format (drop place lines)
-      ≡ cons_option (format.read line.text) (records_of format (drop (place + 1) lines))
-  records-from lines place line inside is =
-      ap (records_of format) (lines-from lines place line inside is)
-
   -- a record of the name is there
   pub named-some :
       (kept : Option R)

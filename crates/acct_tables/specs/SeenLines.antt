@@ -1,6 +1,6 @@
 -- The lines of a file as acct_text has them: one of the program stands for one of these (passwd(5),
 -- and likewise the other five tables).
-use Rattle.std.specs.Prelude.{◌≡◌, ℕ, ◌==◌, Bool, not, List, [], ◌∷◌, length, Option, Some, None, if◌then◌else◌}
+use Rattle.std.specs.Prelude.{◌≡◌, ℕ, ◌==◌, List, [], ◌∷◌, Option, Some, None, if◌then◌else◌}
 use Rattle.acct_text.specs.Bytes.{newline}
 use Rattle.acct_text.specs.Lines.{Line, file_bytes, lines_of}
 use Rattle.acct_tables.specs.declared.lines.FileLine.{FileLine}
@@ -23,7 +23,3 @@ abbrev pub missing_end : List ℕ → List ℕ
 missing_end [] = []
 missing_end (last ∷ []) = if last == newline then [] else newline ∷ []
 missing_end (byte ∷ next ∷ rest) = missing_end (next ∷ rest)
-
--- whether the last line of a text lacks its end
-abbrev pub lacks_end : List ℕ → Bool
-lacks_end text = not (length (missing_end text) == 0)

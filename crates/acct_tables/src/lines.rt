@@ -6,7 +6,7 @@ ghost use Rattle.acct_text.specs.Pieces.{Lacks};
 ghost use Rattle.account_model.specs.Edits.{with_line};
 ghost use Rattle.account_model.specs.Format.{count_named, find_named, has_named, records_of};
 ghost use Rattle.account_model.specs.Written.{IsWritten};
-ghost use Rattle.acct_tables.specs.SeenLines.{end_for, lacks_end, missing_end, seen_line};
+ghost use Rattle.acct_tables.specs.SeenLines.{end_for, missing_end, seen_line};
 
 use crate::line::{is_named, read_record};
 use crate::name_search::from_name;
@@ -168,13 +168,6 @@ pub fn append_line(alloc: Global, text: &mut Bytes, line: &[u8]) -> Result<(), A
     more.push(line)?;
     more.push(b"\n")?;
     text.push(more.as_slice())
-}
-
-/// Whether the last line of a text lacks its end.
-pub(crate) fn lacks_end(text: &[u8]) -> bool
-    ensures { result ≡ lacks_end text.now }
-{
-    !missing_end(text).is_empty()
 }
 
 // The newline that the last line of a text lacks; nothing where it has one, and without lines.

@@ -123,17 +123,10 @@ impl<'a> NameIndex<'a> {
     pub fn has_several(&self, name: &[u8]) -> bool
         ensures { result ≡ are_several (told self.now name.now) }
     {
-        are_several(self.get(name))
-    }
-}
-
-/// Whether the records of a name are several.
-pub(crate) fn are_several(found: Option<NamedLines>) -> bool
-    ensures { result ≡ are_several found }
-{
-    match found {
-        Some(found) => found.count >= 2,
-        None => false,
+        match self.get(name) {
+            Some(found) => found.count >= 2,
+            None => false,
+        }
     }
 }
 

@@ -1,24 +1,21 @@
--- Claim: what words ask for keeps the row of its tool (`asks-keeps_row`), so that an option which
--- takes a value has one (`given-has_value`), and a tool of one operand has it (`one-operand`). Way:
--- each way to spell an option tells its row of the tool's table, by its letter or by its long name,
--- and no two rows of a tool have one letter (`letters-apart`). The rows of the folder count for
--- nothing among options without it.
-use Rattle.std.proofs.Common.{◌≡◌, ℕ, Bool, true, false, ◌==◌, List, [], ◌∷◌, length, refl, sym, ap, subst, ◌∙◌, inl, inr, eq-eqb, arith}
-use Rattle.std.specs.Prelude.{◌||◌, Option, Some, None, find, is_some}
+-- Claim: what words ask for keeps the row of its tool (`asks-keeps_row`). Way: each way to spell an
+-- option tells its row of the tool's table, by its letter or by its long name, and no two rows of a
+-- tool have one letter (`letters-apart`). The rows of the folder count for nothing among options
+-- without it.
+use Rattle.std.proofs.Common.{◌≡◌, ℕ, Bool, true, false, ◌==◌, List, [], ◌∷◌, refl, sym, subst, ◌∙◌, inl, inr, eq-eqb}
+use Rattle.std.specs.Prelude.{◌||◌, Some, find, is_some}
 use Rattle.std.specs.List.{AllByRecursion, list_any}
 use Rattle.std.proofs.lemmas.Bool.{cases_Bool, eqb-true}
 use Rattle.account_model.specs.declared.given.Given.{Given}
 use Rattle.account_model.specs.declared.tool.Tool.{Tool}
 use Rattle.account_model.specs.declared.tool.Tool.TheVariants.{Useradd}
 use Rattle.account_model.specs.Options.{Word, OptionForm}
-use Rattle.account_model.specs.ToolOptions.{prefix_letter, root_letter, is_prefix, option_forms, own_options, operands_of, most_operands}
-use Rattle.account_model.specs.Request.{Request, has_option, value_of, last_value, operand as operand_of}
+use Rattle.account_model.specs.ToolOptions.{prefix_letter, root_letter, is_prefix, option_forms, own_options}
+use Rattle.account_model.specs.Request.{Request}
 use Rattle.account_model.specs.Spelling.{form_of_letter, HasLetter, HasName, Spelled, nothing, end_of_options, operand, letter_flag, letter_bundle, letter_with_value, letter_then_value, name_flag, name_with_value, name_then_value}
-use Rattle.account_model.specs.Text.{last_of}
 use Rattle.account_model.specs.Words.{Asks, without_prefix}
 use Rattle.account_model.proofs.SpelledIsRead.{both_false}
 use Rattle.command_values.specs.Options.{IsOfTable, KeepsRow}
-use Rattle.command_values.proofs.OptionLemmas.{values_in}
 
 -- ---- One row for each letter
 
@@ -158,82 +155,3 @@ asks-keeps_row words request whole =
       few = asks.few;
       rules = asks.rules;
     }
-
--- ---- What follows
-
--- the last of some values is one
-last-stands : (value : List ℕ) (values : List (List ℕ)) → is_some (last_of (value ∷ values)) ≡ true
-last-stands value [] = refl
-last-stands value (next ∷ values) = last-stands next values
-
--- two options of one letter take a value alike
-takes-alike :
-    (table : List OptionForm) (letter other : ℕ) (takes_value has_value : Bool)
-    → HasLetter table letter takes_value
-    → other ≡ letter
-    → HasLetter table other has_value
-    → has_value ≡ takes_value
-takes-alike table letter other takes_value has_value takes same has =
-    let found : form_of_letter table letter ≡ Some has.form =
-    subst (λ l. form_of_letter table l ≡ Some has.form) same has.found in
-    let one : has.form ≡ takes.form = let both = sym found ∙ takes.found in cc in
-    sym has.value ∙ ap (λ (form : OptionForm). form.takes_value) one ∙ takes.value
-
--- an option with a value, in front of others, has a last value
-value-in_front :
-    (letter : ℕ) (option : Given) (options : List Given) (value : Option (List ℕ))
-    → (option.letter == letter) ≡ true
-    → option.value ≡ value
-    → is_some value ≡ true
-    → is_some (last_value letter (option ∷ options)) ≡ true
-value-in_front letter option options None same is stands = absurd cc
-value-in_front letter option options (Some value) same is stands =
-    rw (same, is) (last-stands value (values_in letter options))
-
--- among options of the table, one that takes a value and is given has a value
-value-stands :
-    (table : List OptionForm) (letter : ℕ) (options : List Given)
-    → HasLetter table letter true
-    → AllByRecursion (IsOfTable table) options
-    → is_some (find (λ option. option.letter == letter) options) ≡ true
-    → is_some (last_value letter options) ≡ true
-value-stands table letter [] takes all given = absurd cc
-value-stands table letter (option ∷ options) takes all given =
-    elim (cases_Bool (option.letter == letter)) [
-      | inl same ↦ value-in_front letter option options option.value same refl
-          (takes-alike table letter option.letter true (is_some option.value) takes
-          (eqb-true option.letter letter same) all.0)
-      | inr other ↦ rw other
-          (value-stands table letter options takes all.1 (rw other at given))
-    ]
-
--- an option that takes a value and is given has one
-pub given-has_value :
-    (request : Request) (letter : ℕ)
-    → KeepsRow request
-    → HasLetter (own_options request.tool) letter true
-    → has_option (letter ∷ []) request ≡ true
-    → is_some (value_of (letter ∷ []) request) ≡ true
-given-has_value request letter keeps takes given =
-    value-stands (own_options request.tool) letter request.options takes keeps.options given
-
--- one operand is all operands
-only-operand :
-    (operands : List Word) (name : Word)
-    → length operands ≡ 1
-    → elim operands [ [] ↦ [] | first ∷ rest ↦ first ] ≡ name
-    → operands ≡ name ∷ []
-only-operand [] name one is = absurd cc
-only-operand (first ∷ []) name one is = ap (λ name. name ∷ []) is
-only-operand (first ∷ second ∷ rest) name one is = absurd (omega (arith, one))
-
--- a tool of one operand has that one
-pub one-operand :
-    (request : Request)
-    → KeepsRow request
-    → operands_of request.tool ≡ 1
-    → most_operands request.tool ≡ 1
-    → request.operands ≡ operand_of request ∷ []
-one-operand request keeps least most =
-    let one : length request.operands ≡ 1 = omega (arith, keeps.enough, keeps.few, least, most) in
-    only-operand request.operands (operand_of request) one refl

@@ -1,8 +1,8 @@
 -- Claims: the first record that passes a test is the first among the texts of the first cell that has one
 -- (`first-cell`, `first-placed`, `none-placed`). The first place of what one of two tests has is the
 -- lower of their first places (`first-either`), so the first record that edits meet is found edit by
--- edit (`met-more`); one whose name has no several isn't met (`single-unmet`), and each stands in the places that the edit touches (`change-meets`, `put-meets`,
--- `added-meets`). Way: cell by cell, whose places go up.
+-- edit (`met-more`); one whose name has no several isn't met (`single-unmet`), and none by an edit that
+-- touches no record (`added-meets`). Way: cell by cell, whose places go up.
 use Rattle.std.proofs.Common.{◌≡◌, ◌∙◌, ℕ, ◌<◌, Bool, true, false, List, [], ◌∷◌, ◌++◌, refl, sym, ap, ap₂, inl, inr, arith}
 use Rattle.std.specs.Prelude.{◌&&◌, ◌||◌, find, nat_le, option_map, Option, None, Some}
 use Rattle.std.specs.List.{AllByRecursion, list_any}
@@ -10,20 +10,19 @@ use Rattle.std.proofs.lemmas.Bool.{cases_Bool}
 use Rattle.std.proofs.lemmas.List.Elements.{filter_map-append}
 use Rattle.account_model.specs.Edits.{is_multiple, touches}
 use Rattle.account_model.specs.Edits as model
-use Rattle.account_model.specs.Edits.Edit.{Become, Put}
-use Rattle.account_model.specs.Format.{Format, count_named, is_named, records_of}
+use Rattle.account_model.specs.Format.{Format, count_named, records_of}
 use Rattle.account_model.specs.Ids.{is_used}
 use Rattle.account_model.specs.RecordEdits.{TellsSame}
 use Rattle.line_edits.specs.Touching.{is_met, touches_alone}
-use Rattle.line_edits.proofs.TouchedEdits.{first-or, left-untouched}
+use Rattle.line_edits.proofs.TouchedEdits.{first-or}
 use Rattle.table.specs.Cells.{ArePlaced, cell_at, lines_now}
 use Rattle.table.specs.declared.cell.Cell.{Cell}
 use Rattle.table.specs.Accepting.{is_accepted}
 use Rattle.table.specs.Met.{MeetsAt, earlier, first_in, has_met, meets}
-use Rattle.table.specs.TableCells.{IsSound, Reaches, TouchesAt, has_in, records_read}
+use Rattle.table.specs.TableCells.{IsSound, has_in, records_read}
 use Rattle.table.proofs.PlaceLemmas.{pairs-first, pairs-others}
 use Rattle.table.proofs.PutRecords.{any-read, first-holds, first-there}
-use Rattle.table.proofs.ReachLemmas.{reaches-weaker, there-all, there-weaker}
+use Rattle.table.proofs.ReachLemmas.{there-all}
 use Rattle.table.proofs.ReachedRecords.{all-read, texts_in}
 
 -- ---- The first of two places
@@ -278,45 +277,6 @@ module _ {R : Type 0} (format : Format R) (cells : List Cell) where
         (touched several : Bool) → (touched && several) ≡ true → touched ≡ true
     met-touched true several is = refl
     met-touched false several is = is
-
-    -- where those stand that a change touches
-    pub change-meets :
-        (f : R → List R)
-        → TellsSame format
-        → TouchesAt format f cells places
-        → MeetsAt format (Become f) cells places
-    change-meets f tells at = record {
-      all = there-weaker format (λ place r. is_used places place ≡ false → f r ≡ r ∷ [])
-          (λ place r. is_met format (Become f ∷ []) whole r ≡ true → is_used places place ≡ true)
-          (λ place r others met. elim (cases_Bool (is_used places place)) [
-            | inl used ↦ used
-            | inr unused ↦
-                let both : true ≡ false =
-                sym (met-touched (touches_alone format (Become f) r) (is_multiple format whole r) met)
-                ∙ left-untouched format tells f r (others unused) in
-                absurd cc
-          ])
-          cells at.others;
-      ascending = at.ascending;
-      sound = at.sound;
-      placed = at.placed;
-    }
-
-    -- where those of the name stand
-    pub put-meets :
-        (item : R)
-        → Reaches format (is_named format (format.name item)) cells places
-        → MeetsAt format (Put item) cells places
-    put-meets item reached =
-        reaches-weaker format (is_met format (Put item ∷ []) whole)
-        (is_named format (format.name item)) cells places
-        (λ r met. named (is_named format (format.name item) r)
-        (met-touched (touches_alone format (Put item) r) (is_multiple format whole r) met))
-        reached
-      where
-        named : (is : Bool) → (is || false) ≡ true → is ≡ true
-        named true met = refl
-        named false met = met
 
     -- one that is added touches none
     pub added-meets :

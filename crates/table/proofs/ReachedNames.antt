@@ -1,6 +1,5 @@
 -- Claim: places that reach the records of each of several names reach those of all (`names-none`,
--- `names-more`), and so do the same places sorted and each once (`names-sorted`); a change that touches
--- records of these names alone touches none elsewhere (`names-touch`). Way: name by name.
+-- `names-more`), and so do the same places sorted and each once (`names-sorted`). Way: name by name.
 use Rattle.std.proofs.Common.{◌≡◌, ◌∙◌, ℕ, Bool, true, false, List, [], ◌∷◌, ◌++◌, sym, inl, inr, refl}
 use Rattle.std.specs.Prelude.{◌||◌, ◌==◌, Some, bytes_eq, nat_eq}
 use Rattle.std.specs.List.{AllByRecursion, dedup}
@@ -11,13 +10,12 @@ use Rattle.std.proofs.lemmas.List.Folds.{list_any-append}
 use Rattle.account_model.specs.Format.{Format, is_named}
 use Rattle.account_model.specs.Ids.{is_used}
 use Rattle.account_model.specs.Text.{is_listed}
-use Rattle.line_edits.specs.Naming.{TouchesOnly}
 use Rattle.table.specs.Cells.{ArePlaced}
 use Rattle.table.specs.declared.cell.Cell.{Cell}
 use Rattle.table.specs.KeyPlaces.{ArePlacesOf}
 use Rattle.table.proofs.FoundPlaces.{found-places}
-use Rattle.table.specs.TableCells.{IsSound, Reaches, ReachesNames, TouchesAt}
-use Rattle.table.proofs.ReachLemmas.{reached-touches, there-all, there-both, there-weaker}
+use Rattle.table.specs.TableCells.{IsSound, Reaches, ReachesNames}
+use Rattle.table.proofs.ReachLemmas.{there-all, there-both, there-weaker}
 
 -- the last of several has what none before it has
 last-has :
@@ -79,13 +77,3 @@ module _ {R : Type 0} (format : Format R) (cells : List Cell) where
         sound = sound;
         placed = placed;
       }
-
-  -- a change of records of these names
-  pub names-touch :
-      (f : R → List R) (names : List (List ℕ)) (places : List ℕ)
-      → TouchesOnly format f names
-      → Reaches format (λ r. is_listed (format.name r) names) cells places
-      → TouchesAt format f cells places
-  names-touch f names places touches reached =
-      reached-touches format f (λ r. is_listed (format.name r) names) cells places touches
-      reached

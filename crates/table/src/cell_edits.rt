@@ -1,8 +1,9 @@
 // Edits of a table's lines where they stand (passwd(5), shadow(5), group(5), gshadow(5), subuid(5),
 // subgid(5)). An edit goes to the places where records may stand that it touches; what it brings there is told before the texts are put.
-ghost use Rattle.std.specs.Prelude.{◌≡◌, ◌<◌, ◌∷◌, [], true, false, AllPairs, Some, find, option_map, IfOk, OnOk};
+ghost use Rattle.std.specs.Prelude.{◌≡◌, ◌<◌, ◌∷◌, [], true, false, AllPairs, Some, find, is_some, option_map, IfOk, OnOk};
 ghost use Rattle.account_model.specs.Edits.{edited, put_first, with_line};
 ghost use Rattle.account_model.specs.Edits as model;
+ghost use Rattle.account_model.specs.Format.{has_named, records_of};
 ghost use Rattle.account_model.specs.RecordEdits.{IsWrittenEdit};
 ghost use Rattle.account_model.specs.Written.{IsWritten};
 ghost use Rattle.line_edits.specs.SeenEdits.{seen_edit};
@@ -166,8 +167,10 @@ impl<'a, R: KeyedRecord + Drop> KeyedCells<'a, R> {
 
     // The first place with a record of the name; none where no record has it.
     fn place_named(&self, alloc: Global, name: &[u8]) -> Result<Option<usize>, AllocError>
-        ensures { IfOk result (λ place. place ≡ option_map (λ cell. cell.place)
+        ensures first { IfOk result (λ place. place ≡ option_map (λ cell. cell.place)
             (find (has_named_in R.format name.now) self.now)) }
+        ensures has { IfOk result (λ place. is_some place
+            ≡ has_named R.format name.now (records_of R.format (lines_now self.now))) }
     {
         let places = self.places_of(alloc, name)?;
         Ok(self.first_named_of(name, places.as_slice()))
