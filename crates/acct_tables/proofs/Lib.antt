@@ -1,3 +1,5 @@
+pub mod FileLemmas
+pub mod GatheredIds
 pub mod RecordLines
 pub mod RenamingLemmas
 pub mod LinesAhead

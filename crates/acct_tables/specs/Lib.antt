@@ -1,3 +1,4 @@
+pub mod TablesOfLines
 pub mod TableLines
 pub mod Renaming
 pub mod SeenLines

@@ -1,5 +1,4 @@
 pub mod EditedTables
-pub mod GatheredIds
 pub mod OwnerLemmas
 pub mod NumberLemmas
 pub mod KeptIdLemmas

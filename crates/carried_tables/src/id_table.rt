@@ -12,9 +12,10 @@ ghost use Rattle.table.specs.Standing.{IsTaken};
 ghost use Rattle.table.specs.TableEdits.{AreWritten, table_by};
 
 use crate::IdsInUse;
-use crate::ids::{IdRecord, OfId, Renumbering, listed_ids, used_ids};
+use crate::ids::{IdRecord, OfId, Renumbering, used_ids};
 use crate::kept_ids::KeptIds;
 use crate::touched_tables::take_edited;
+use acct_tables::listed_ids;
 use acct_text::Bytes;
 use line_edits::Edit;
 use std::alloc::{AllocError, Global};

@@ -7,8 +7,8 @@
 //! subordinate IDs with the numbers that their ranges take (`range_table`). In the end the tables that
 //! differ from the files are taken out, where they were edited (`touched_tables`).
 //!
-//! `ids` gathers the IDs that are used in a file; `in_use` is how they are answered. A `RangeTable` decides
-//! how edits of ranges are made. Without an index `range_edits` makes them in the text: removals of IDs
+//! `ids` has the IDs that are used in a file, and what edits do with them; `in_use` is how they are answered.
+//! A `RangeTable` decides how edits of ranges are made. Without an index `range_edits` makes them in the text: removals of IDs
 //! from one owner that follow one another in one pass over the lines, of which `cut_ranges` has what is
 //! left of one range; and the removal of all ranges of an owner (`removed_owner`). By an index
 //! `edits_in_place` makes them: a range that comes, an owner that gets another name, one whose ranges go,
@@ -32,7 +32,7 @@ mod touched_tables;
 
 pub use carried_tables::CarriedTables;
 pub use id_table::IdTable;
-pub use ids::{IdRecord, Renumbering, used_ids};
+pub use ids::{IdRecord, Renumbering};
 pub use in_use::IdsInUse;
 pub use range_edits::edited_ranges;
 pub use range_table::RangeTable;

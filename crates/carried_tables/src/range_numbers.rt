@@ -11,10 +11,11 @@ ghost use Rattle.line_edits.specs.SubidChanges.{subid_becomes};
 ghost use Rattle.carried_tables.specs.RangeNumbers.{AreNumbersIn, FollowsGain, FollowsLoss, KeepsNumbers};
 
 use acct_lines::SubidRecord;
+use acct_tables::text_of;
 use line_edits::{Edit, SubidChange};
 use std::alloc::{AllocError, Global};
 use subid_ranges::RangeNumbers;
-use table::{Table, text_of};
+use table::Table;
 
 /// The numbers after the edit, where those before tell them, or a range is added: then they are gathered
 /// where they aren't known.

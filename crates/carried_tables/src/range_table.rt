@@ -13,13 +13,14 @@ ghost use Rattle.line_edits.specs.SubidChanges.{subid_becomes};
 use crate::range_edits::edited_ranges;
 use crate::touched_tables::take_edited;
 use acct_lines::SubidRecord;
+use acct_tables::text_of;
 use acct_text::Bytes;
 use itoa::Buffer;
 use line_edits::{Edit, SubidChange};
 use std::alloc::{AllocError, Global};
 use std::marker::Model;
 use subid_ranges::{RangeNumbers, free_gap_in};
-use table::{Table, text_of};
+use table::Table;
 
 // From so many edits on, of which one takes IDs out of ranges, these are made in one pass, as an owner
 // may have many ranges.

@@ -18,7 +18,7 @@ use Rattle.account_model.specs.Tables.{table_after}
 use Rattle.acct_tables.specs.NameIndex.{TellsAtMost, are_several, has_name, records_at, told}
 use Rattle.acct_tables.specs.declared.name_index.NamedLines.{NamedLines}
 use Rattle.acct_tables.proofs.NameIndexLemmas.{none-counts}
-use Rattle.table.specs.TablesOfLines.{lines_in}
+use Rattle.acct_tables.specs.TablesOfLines.{lines_in}
 use Rattle.check_reports.specs.declared.sorting.ByPlace.{ByPlace}
 use Rattle.check_reports.specs.LineChanges.{is_met, met_in}
 use Rattle.check_reports.specs.Secrets.{HasSecrets, found_text, shown_by}

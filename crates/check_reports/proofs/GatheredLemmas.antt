@@ -24,7 +24,7 @@ use Rattle.account_model.specs.RecordEdits.{IsWrittenEdit, TellsSame}
 use Rattle.account_model.specs.Tables.{table_after}
 use Rattle.account_model.specs.Written.{IsWritten}
 use Rattle.acct_tables.proofs.EditedFiles.{edit-found}
-use Rattle.table.specs.TablesOfLines.{lines_in}
+use Rattle.acct_tables.specs.TablesOfLines.{lines_in}
 use Rattle.check_reports.specs.Gathered.{gathered_by, gathered_edits, made_edits, taken_edits}
 use Rattle.check_reports.specs.Secrets.{found_text}
 use Rattle.check_reports.specs.declared.secrets.Secrets.{Secrets}

@@ -13,8 +13,8 @@ use Rattle.account_model.specs.Ids.{is_used}
 use Rattle.acct_tables.specs.NameIndex.{IsLineNoted, Tells, Told, begins_before, line_name, line_names, told}
 use Rattle.acct_tables.proofs.NameIndexLemmas.{told-line}
 use Rattle.acct_tables.proofs.NamedRecords.{told-before, told-has}
-use Rattle.table.specs.TablesOfLines.{lines_in}
-use Rattle.table.proofs.FileLemmas.{records-in}
+use Rattle.acct_tables.specs.TablesOfLines.{lines_in}
+use Rattle.acct_tables.proofs.FileLemmas.{records-in}
 use Rattle.check_reports.specs.declared.known.NamedFile.{NamedFile}
 use Rattle.check_reports.specs.Known.{IsWhole, has_gid}
 

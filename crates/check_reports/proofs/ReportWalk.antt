@@ -17,7 +17,7 @@ use Rattle.account_model.specs.Problems.{DuplicateName, InvalidEntry, Located, P
 use Rattle.acct_tables.specs.declared.name_index.NameIndex.{NameIndex}
 use Rattle.acct_tables.specs.NameIndex.{IsLineNoted, Tells, TellsAtMost, begins_before, line_name, line_names, told}
 use Rattle.acct_tables.proofs.NameIndexLemmas.{told-within}
-use Rattle.table.specs.TablesOfLines.{lines_in}
+use Rattle.acct_tables.specs.TablesOfLines.{lines_in}
 use Rattle.check_reports.specs.declared.known.NamedFile.{NamedFile}
 use Rattle.check_reports.specs.declared.report.Checked.{Checked}
 use Rattle.check_reports.specs.declared.report.Report.{Report}

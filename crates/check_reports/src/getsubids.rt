@@ -11,13 +11,12 @@ ghost use Rattle.check_reports.specs.Listed.{listed_file, range_for};
 
 use crate::decision::told;
 use account_model::{PasswdRecord, Refusal};
-use acct_tables::find_record;
+use acct_tables::{find_record, text_of};
 use acct_text::Piece::{Number, Text};
 use acct_text::{Bytes, Files};
 use command_values::Asked;
 use std::alloc::{AllocError, Global};
 use subid_ranges::OwnedRanges;
-use table::text_of;
 use tool_answers::{Decision, refuse};
 
 /// Lists the ranges of the user in subuid(5), or with `-g` in subgid(5). `NoRanges` refuses a user

@@ -4,14 +4,13 @@ ghost use Rattle.std.specs.Prelude.{◌≡◌, [], Some, option_map, IfOk, IfSom
 ghost use Rattle.account_model.specs.Faults.{shadow_fault};
 ghost use Rattle.account_model.specs.Records.{shadow_format};
 ghost use Rattle.acct_tables.specs.NameIndex.{Tells, line_names, told};
-ghost use Rattle.table.specs.TablesOfLines.{lines_in};
+ghost use Rattle.acct_tables.specs.TablesOfLines.{lines_in};
 ghost use Rattle.check_reports.specs.Hashes.{hash_in, seen_hash};
 
 use acct_lines::{LineFault, ShadowLine, first_field};
-use acct_tables::{Lines, NameIndex};
+use acct_tables::{Lines, NameIndex, text_of};
 use acct_text::Bytes;
 use std::alloc::{AllocError, Global};
-use table::text_of;
 
 // The greatest number of lines that are kept, which take some 25 MB: a file of 16 MiB may be all
 // empty lines, of which each takes 48 bytes here. Those behind are read when they are asked for.

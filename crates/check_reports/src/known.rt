@@ -6,16 +6,15 @@ ghost use Rattle.account_model.specs.Records.{group_format, gshadow_format, pass
 ghost use Rattle.account_model.specs.Tables.{table_records};
 ghost use Rattle.acct_tables.specs.NameIndex.{Tells, TellsAtMost, line_names, told};
 ghost use Rattle.id_choice.specs.Used.{AreThoseOf};
-ghost use Rattle.table.specs.TablesOfLines.{lines_in};
+ghost use Rattle.acct_tables.specs.TablesOfLines.{lines_in};
 ghost use Rattle.check_reports.specs.Known.{HasNoted, IsWhole, NotesLine, has_gid};
 
 use crate::hashes::HashLines;
 use acct_lines::TableRecord;
-use acct_tables::NameIndex;
+use acct_tables::{NameIndex, text_of};
 use acct_text::Bytes;
 use id_choice::UsedIds;
 use std::alloc::{AllocError, Global};
-use table::text_of;
 
 /// The file of a table, which may be absent, with the names of its records.
 pub(crate) struct NamedFile<'a> {

@@ -8,7 +8,7 @@ ghost use Rattle.account_model.specs.Edits.{Become, becomes, edited, first_multi
 ghost use Rattle.account_model.specs.Tables.{table_records};
 ghost use Rattle.acct_tables.specs.NameIndex.{TellsAtMost, are_several, told};
 ghost use Rattle.acct_tables.specs.SeenLines.{seen_line};
-ghost use Rattle.table.specs.TablesOfLines.{lines_in};
+ghost use Rattle.acct_tables.specs.TablesOfLines.{lines_in};
 ghost use Rattle.check_reports.specs.LineChanges.{met_in};
 ghost use Rattle.check_reports.specs.Secrets.{HasSecrets};
 ghost use Rattle.check_reports.specs.Sorted.{IsOrderOf};
@@ -16,10 +16,9 @@ ghost use Rattle.check_reports.specs.Sorted.{IsOrderOf};
 use crate::secrets::{AccountLine, Secrets};
 use crate::sorting::ByPlace;
 use acct_lines::TableRecord;
-use acct_tables::{FileLine, Lines};
+use acct_tables::{FileLine, Lines, text_of};
 use acct_text::Bytes;
 use std::alloc::{AllocError, Global};
-use table::text_of;
 
 /// A change that may touch each record of a table.
 pub(crate) trait LineChange<'a, R: TableRecord, L: AccountLine<'a, R>> {

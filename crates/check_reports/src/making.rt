@@ -16,10 +16,9 @@ use crate::secrets::AccountLine;
 use crate::sorting::ByPlace;
 use account_model::{GroupRecord, GshadowRecord, PasswdRecord, ShadowRecord};
 use acct_lines::{GroupLine, PasswdLine, TableRecord};
-use acct_tables::{Lines, NameIndex};
+use acct_tables::{Lines, NameIndex, text_of};
 use acct_text::Bytes;
 use std::alloc::{AllocError, Global};
-use table::text_of;
 
 /// How a record of hashes is made of a main one.
 pub(crate) trait Making<M: TableRecord, H: TableRecord> {

@@ -12,10 +12,10 @@ use crate::report::{Checks, NameRead, Report};
 use crate::sorting::ById;
 use account_model::{GroupRecord, PasswdRecord, ShadowRecord};
 use acct_lines::{PasswdLine, is_valid_name};
-use acct_tables::NameIndex;
+use acct_tables::{NameIndex, listed_ids};
 use acct_text::{Files, Tab};
-use carried_tables::used_ids;
 use command_values::Asked;
+use id_choice::UsedIds;
 use std::alloc::{AllocError, Global};
 use tool_answers::Decision;
 
@@ -49,7 +49,7 @@ fn report_users(
     let mut names = NameIndex::new(alloc);
     let lines = HashLines::of(alloc, &files.shadow, &mut names)?;
     let mut hashes = NamedFile::with::<ShadowRecord>(&files.shadow, names);
-    let gids = used_ids::<GroupRecord>(alloc, &files.group)?;
+    let gids = UsedIds::of(alloc, listed_ids::<GroupRecord>(alloc, &files.group)?)?;
     let known = UserChecks {
         hashes: &hashes,
         groups: &files.group,

@@ -16,10 +16,9 @@ use crate::known::NamedFile;
 use crate::problem::Problem;
 use crate::problems::Problems;
 use acct_lines::{ReadFault, TableRecord};
-use acct_tables::{Lines, NameIndex};
+use acct_tables::{Lines, NameIndex, text_of};
 use acct_text::{Bytes, Tab, push_decimal};
 use std::alloc::{AllocError, Global};
-use table::text_of;
 use tool_answers::Decision;
 
 // The status of a report with a problem.

@@ -10,10 +10,9 @@ ghost use Rattle.std.specs.Option.{option_copied};
 
 use account_model::{GroupRecord, PasswdRecord};
 use acct_lines::{GroupLine, PasswdLine, TableRecord};
-use acct_tables::{FileLine, Lines, NameIndex, is_record, name_of};
+use acct_tables::{FileLine, Lines, NameIndex, is_record, name_of, text_of};
 use acct_text::Bytes;
 use std::alloc::{AllocError, Global};
-use table::text_of;
 
 /// What the records of a table are sorted by.
 pub(crate) trait SortKey<R: TableRecord> {

@@ -1,5 +1,4 @@
 pub mod RecordLemmas
-pub mod FileLemmas
 pub mod NumberLemmas
 pub mod PlaceLemmas
 pub mod ReachedRecords

@@ -1,6 +1,5 @@
 pub mod Standing
 pub mod Accepting
-pub mod TablesOfLines
 pub mod TableEdits
 pub mod TableCells
 pub mod Met

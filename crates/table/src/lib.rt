@@ -65,5 +65,5 @@ pub use files::SeenFile;
 pub use key_places::{KeyPlaces, Spot};
 pub use keys::KeyedRecord;
 pub use place_lists::ListedPlaces;
-pub use search::{OfGid, RecordTest, text_of};
+pub use search::{OfGid, RecordTest};
 pub use table::Table;

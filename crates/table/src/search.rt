@@ -1,13 +1,11 @@
 // The lines of a table, and the first record among them that passes a test.
 ghost use Rattle.std.specs.Prelude.{◌≡◌, Bool, find, IfOk, IfSome};
-ghost use Rattle.acct_text.specs.Lines.{lines_of};
 ghost use Rattle.account_model.specs.Tables.{table_records};
 ghost use Rattle.table.specs.Accepting.{IsKeyOf, IsNumberOf, is_accepted};
-ghost use Rattle.table.specs.TablesOfLines.{lines_in};
 
 use crate::keys::KeyedRecord;
 use acct_lines::{GroupLine, GroupRecord, PasswdLine, PasswdRecord};
-use acct_tables::{Lines, from_mark, read_record};
+use acct_tables::{Lines, from_mark, read_record, text_of};
 use acct_text::Bytes;
 use itoa::Buffer;
 use std::alloc::{AllocError, Global};
@@ -75,16 +73,6 @@ impl RecordTest<GroupRecord> for OfGid {
             Ok(group) => group.gid == self.gid,
             Err(_) => false,
         }
-    }
-}
-
-/// The bytes of a table's file; an absent one has none.
-pub fn text_of(file: &Option<Bytes>) -> &[u8]
-    ensures { lines_of result.now ≡ lines_in file.now }
-{
-    match file {
-        Some(text) => text.as_slice(),
-        None => b"",
     }
 }
 

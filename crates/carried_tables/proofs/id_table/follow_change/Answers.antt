@@ -9,7 +9,7 @@ use Rattle.carried_tables.proofs.id_table.follow_change.Goals as goal
 pub returns-then-keeps_ids : goal.returns-then-keeps_ids
 returns-then-keeps_ids g c = λ told are.
     let format = g.R.TableRecord.format in
-    let id_of = g.R.IdRecord.id_of in
+    let id_of = g.R.NumberedRecord.id_of in
     let change = g.R.EditedRecord.becomes c.args.change.now in
     subst (λ ids. AreIdsOf c.args.ids.now (counts_of ids))
     (sym (kept-all format id_of change (table_records format c.args.table.now)

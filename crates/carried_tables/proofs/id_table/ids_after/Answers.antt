@@ -9,7 +9,7 @@ use Rattle.carried_tables.proofs.id_table.ids_after.Goals as goal
 pub returns : goal.returns
 returns g c =
     let format = g.R.TableRecord.format in
-    let id_of = g.R.IdRecord.id_of in
+    let id_of = g.R.NumberedRecord.id_of in
     let file = c.args.table.now in
     let told : c.in_ok-follow.field-0 ≡ true = search rules in
     let before : AreIdsOf c.in-Some.ids (table_counts format id_of file) =

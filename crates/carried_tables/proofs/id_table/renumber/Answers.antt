@@ -11,7 +11,7 @@ use Rattle.carried_tables.proofs.id_table.renumber.Goals as goal
 pub returns-in_default : goal.returns-in_default
 returns-in_default g c = λ told change renumbers are.
     let format = g.R.TableRecord.format in
-    let id_of = g.R.IdRecord.id_of in
+    let id_of = g.R.NumberedRecord.id_of in
     let records = table_records format c.args.table.now in
     let name = c.args.renumbering.name.now in
     subst (λ ids. AreIdsOf c.args.ids.now (counts_of ids))
@@ -23,7 +23,7 @@ returns-in_default g c = λ told change renumbers are.
 pub returns : goal.returns
 returns g c =
     let format = g.R.TableRecord.format in
-    let id_of = g.R.IdRecord.id_of in
+    let id_of = g.R.NumberedRecord.id_of in
     let records = table_records format c.args.table.now in
     IfOk-weaker c.swap.result _ _ (λ is_known follow told change renumbers are.
     follow told _ _ are (λ id.

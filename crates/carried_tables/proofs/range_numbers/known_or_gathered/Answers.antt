@@ -3,8 +3,8 @@ use Rattle.std.proofs.lemmas.Result.{IfOk-weaker}
 use Rattle.acct_text.specs.Lines.{lines_of}
 use Rattle.account_model.specs.Records.{subid_format}
 use Rattle.subid_ranges.specs.RangeNumbers.{AreNumbersOf}
-use Rattle.table.specs.TablesOfLines.{lines_in}
-use Rattle.table.proofs.FileLemmas.{records-in}
+use Rattle.acct_tables.specs.TablesOfLines.{lines_in}
+use Rattle.acct_tables.proofs.FileLemmas.{records-in}
 use Rattle.carried_tables.proofs.range_numbers.known_or_gathered.Goals as goal
 
 -- the text is that of the file

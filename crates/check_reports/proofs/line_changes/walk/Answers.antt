@@ -5,8 +5,8 @@ use Rattle.account_model.specs.Edits.{becomes}
 use Rattle.account_model.specs.Format.{records_of}
 use Rattle.acct_tables.specs.SeenLines.{seen_line}
 use Rattle.acct_tables.proofs.LinesAhead.{walked, walked-all}
-use Rattle.table.specs.TablesOfLines.{lines_in}
-use Rattle.table.proofs.FileLemmas.{records-in}
+use Rattle.acct_tables.specs.TablesOfLines.{lines_in}
+use Rattle.acct_tables.proofs.FileLemmas.{records-in}
 use Rattle.check_reports.specs.Secrets.{HasSecrets}
 use Rattle.check_reports.proofs.PlaceLemmas.{order-within, place-fits}
 use Rattle.check_reports.proofs.RecordWalk.{records-more, with_next}

@@ -3,7 +3,7 @@ use Rattle.std.specs.Prelude.{flat_map}
 use Rattle.acct_text.specs.Lines.{file_bytes}
 use Rattle.account_model.specs.Edits.{becomes}
 use Rattle.account_model.specs.Format.{records_of}
-use Rattle.table.specs.TablesOfLines.{lines_in}
+use Rattle.acct_tables.specs.TablesOfLines.{lines_in}
 use Rattle.check_reports.specs.Secrets.{HasSecrets}
 use Rattle.check_reports.proofs.RecordWalk.{HaveTaken}
 use Rattle.check_reports.proofs.line_changes.walk.Given as goal

@@ -7,7 +7,7 @@ use Rattle.account_model.specs.Format.{records_of}
 use Rattle.account_model.specs.RecordEdits.{IsWrittenEdit}
 use Rattle.account_model.specs.Tables.{table_records}
 use Rattle.acct_tables.specs.SeenLines.{seen_line}
-use Rattle.table.proofs.FileLemmas.{records-in}
+use Rattle.acct_tables.proofs.FileLemmas.{records-in}
 use Rattle.check_reports.specs.Gathered.{IsGrown, made_edits}
 use Rattle.check_reports.specs.Sorted.{IsOrderOf}
 use Rattle.check_reports.proofs.GrownLemmas.{grown-fresh, grown-walk, written-walk}

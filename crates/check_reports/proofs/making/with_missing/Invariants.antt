@@ -5,7 +5,7 @@ use Rattle.account_model.specs.Edits.{edited_by}
 use Rattle.account_model.specs.Format.{records_of}
 use Rattle.account_model.specs.RecordEdits.{IsWrittenEdit}
 use Rattle.account_model.specs.Tables.{table_records}
-use Rattle.table.specs.TablesOfLines.{lines_in}
+use Rattle.acct_tables.specs.TablesOfLines.{lines_in}
 use Rattle.check_reports.specs.Gathered.{IsGrown, made_edits}
 use Rattle.check_reports.proofs.RecordWalk.{HaveTaken}
 use Rattle.check_reports.proofs.making.with_missing.Given as goal

@@ -1,4 +1,4 @@
-use Rattle.std.proofs.Common.{◌∙◌, Bool, true, [], ap}
+use Rattle.std.proofs.Common.{◌∙◌, ℕ, Bool, true, List, [], ap, subst}
 use Rattle.std.specs.Prelude.{codes}
 use Rattle.acct_text.specs.declared.Tab.TheVariants.{Passwd, Shadow}
 use Rattle.acct_text.specs.Files.{no_files}
@@ -6,6 +6,7 @@ use Rattle.account_model.specs.Records.{passwd_format, shadow_format}
 use Rattle.account_model.specs.Problems.{table_problems}
 use Rattle.account_model.specs.Pwck.{passwd_report, shadow_problems, shadow_report, user_problems}
 use Rattle.account_model.specs.Request.{has_option}
+use Rattle.id_choice.specs.Used.{AreThoseOf}
 use Rattle.check_reports.specs.Reported.{with_problems}
 use Rattle.check_reports.proofs.ReportLemmas.{told-both}
 use Rattle.check_reports.proofs.pwck.report_users.Goals as goal
@@ -13,7 +14,8 @@ use Rattle.check_reports.proofs.pwck.report_users.Goals as goal
 pub invariant_of-known : goal.invariant_of-known
 invariant_of-known c = record {
   of_hashes = c.with-hashes.ensures.whole;
-  of_gids = c.in_ok-gids.ensures;
+  of_gids = subst (λ (ids : List ℕ). AreThoseOf c.in_ok-gids.gids ids)
+      c.in_ok-listed_ids.ensures c.in_ok-gids.ensures;
 }
 
 pub returns : goal.returns

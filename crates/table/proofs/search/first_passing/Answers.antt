@@ -4,7 +4,7 @@ use Rattle.std.proofs.lemmas.Result.{IfOk-weaker}
 use Rattle.acct_text.specs.Lines.{lines_of}
 use Rattle.account_model.specs.Format.{records_of}
 use Rattle.acct_tables.specs.Marks.{IsFromMark}
-use Rattle.table.proofs.FileLemmas.{records-in}
+use Rattle.acct_tables.proofs.FileLemmas.{records-in}
 use Rattle.table.proofs.NumberLemmas.{marked-fewer, marked-passing}
 use Rattle.table.proofs.RecordLemmas.{find-accepted, find-refused}
 use Rattle.table.proofs.search.first_passing.Goals as goal

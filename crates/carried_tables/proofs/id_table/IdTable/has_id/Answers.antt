@@ -9,7 +9,7 @@ use Rattle.carried_tables.proofs.id_table.IdTable.has_id.Goals as goal
 pub returns-in_ok-first_passing-in-None : goal.returns-in_ok-first_passing-in-None
 returns-in_ok-first_passing-in-None g c =
     let format = g.R.TableRecord.format in
-    let id_of = g.R.IdRecord.id_of in
+    let id_of = g.R.NumberedRecord.id_of in
     c.is_some.ensures
     ∙ ap is_some c.in_ok-first_passing-in-None.ensures
     ∙ used-found id_of c.args.id (table_records format c.self.inside.table)

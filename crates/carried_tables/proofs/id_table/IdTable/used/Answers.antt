@@ -10,7 +10,7 @@ use Rattle.carried_tables.proofs.id_table.IdTable.used.Goals as goal
 pub returns-in-Some : goal.returns-in-Some
 returns-in-Some g c = λ id.
     let format = g.R.TableRecord.format in
-    let id_of = g.R.IdRecord.id_of in
+    let id_of = g.R.NumberedRecord.id_of in
     let file = c.args.self.now in
     let are : AreIdsOf c.in-Some.ids (table_counts format id_of file) =
     subst (λ file. AreIdsOf c.in-Some.ids (table_counts format id_of file)) c.self.view_is

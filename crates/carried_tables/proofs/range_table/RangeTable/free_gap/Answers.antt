@@ -3,8 +3,8 @@ use Rattle.std.specs.Prelude.{IfSome}
 use Rattle.account_model.specs.Records.{subid_format}
 use Rattle.account_model.specs.FreeRange.{free_range}
 use Rattle.subid_ranges.specs.RangeNumbers.{AreNumbersOf}
-use Rattle.table.specs.TablesOfLines.{lines_in}
-use Rattle.table.proofs.FileLemmas.{records-in}
+use Rattle.acct_tables.specs.TablesOfLines.{lines_in}
+use Rattle.acct_tables.proofs.FileLemmas.{records-in}
 use Rattle.carried_tables.specs.RangeNumbers.{AreNumbersIn}
 use Rattle.carried_tables.proofs.range_table.RangeTable.free_gap.Goals as goal
 

@@ -5,7 +5,7 @@ use Rattle.acct_tables.specs.NameIndex.{IsNoted, Tells, TellsAtMost, line_names,
 use Rattle.acct_tables.specs.SeenLines.{seen_line}
 use Rattle.acct_tables.proofs.LinesCounted.{lines-counted}
 use Rattle.acct_tables.proofs.NameIndexLemmas.{names-many, names-more, next-behind, next-inside, none-left, told-other, told-record, told-within}
-use Rattle.table.specs.TablesOfLines.{lines_in}
+use Rattle.acct_tables.specs.TablesOfLines.{lines_in}
 use Rattle.check_reports.proofs.HashLemmas.{hash_name, hash-named}
 use Rattle.check_reports.proofs.hashes.HashLines.of.Goals as goal
 use Rattle.check_reports.proofs.hashes.HashLines.of.Goals.{in-Some-hash+in_ok-add, in_default-hash}

@@ -1,7 +1,7 @@
 use Rattle.std.proofs.Common.{◌≡◌, drop, length, take}
 use Rattle.account_model.specs.Records.{shadow_format}
 use Rattle.acct_tables.specs.NameIndex.{Tells, line_names, told}
-use Rattle.table.specs.TablesOfLines.{lines_in}
+use Rattle.acct_tables.specs.TablesOfLines.{lines_in}
 use Rattle.check_reports.proofs.hashes.HashLines.of.Given as goal
 
 -- the names are those of the lines so far, and the others are left

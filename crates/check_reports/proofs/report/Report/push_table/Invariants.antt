@@ -1,6 +1,6 @@
 use Rattle.std.proofs.Common.{◌≡◌, [], length}
 use Rattle.account_model.specs.Problems.{problems_behind}
-use Rattle.table.specs.TablesOfLines.{lines_in}
+use Rattle.acct_tables.specs.TablesOfLines.{lines_in}
 use Rattle.check_reports.specs.Reported.{with_problems}
 use Rattle.check_reports.proofs.ReportWalk.{IsReported}
 use Rattle.check_reports.proofs.report.Report.push_table.Given as goal

@@ -1,8 +1,8 @@
 use Rattle.std.proofs.Common.{◌∙◌, ◌++◌, [], append-nil, length, refl, sym, ap, subst, arith}
 use Rattle.account_model.specs.Format.{records_of}
 use Rattle.acct_tables.specs.SeenLines.{seen_line}
-use Rattle.table.specs.TablesOfLines.{lines_in}
-use Rattle.table.proofs.FileLemmas.{records-in}
+use Rattle.acct_tables.specs.TablesOfLines.{lines_in}
+use Rattle.acct_tables.proofs.FileLemmas.{records-in}
 use Rattle.check_reports.specs.Sorted.{IsOrderOf}
 use Rattle.check_reports.proofs.PlaceLemmas.{order-other, order-record, order-within, place-fits}
 use Rattle.check_reports.proofs.RecordWalk.{records-more, with_next}

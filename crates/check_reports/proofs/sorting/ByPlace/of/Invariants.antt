@@ -1,6 +1,6 @@
 use Rattle.std.proofs.Common.{length}
 use Rattle.account_model.specs.Format.{records_of}
-use Rattle.table.specs.TablesOfLines.{lines_in}
+use Rattle.acct_tables.specs.TablesOfLines.{lines_in}
 use Rattle.check_reports.specs.Sorted.{IsOrderOf}
 use Rattle.check_reports.proofs.RecordWalk.{HaveTaken}
 use Rattle.check_reports.proofs.sorting.ByPlace.of.Given as goal

@@ -1,13 +1,13 @@
 use Rattle.std.proofs.Common.{length, map}
 use Rattle.account_model.specs.Tables.{table_records}
-use Rattle.carried_tables.proofs.GatheredIds.{Gathers}
-use Rattle.carried_tables.proofs.ids.listed_ids.Given as goal
+use Rattle.acct_tables.proofs.GatheredIds.{Gathers}
+use Rattle.acct_tables.proofs.ids.listed_ids.Given as goal
 
 -- the IDs so far, with those of the lines left, are all
 abbrev pub invariant-lines : goal.invariant-lines
 invariant-lines g l =
     let format = g.R.TableRecord.format in
-    let number = g.R.IdRecord.id_of in
+    let number = g.R.NumberedRecord.id_of in
     Gathers format number (map number (table_records format l.file)) l.ids.items l.left
 
 abbrev pub decreases-lines : goal.decreases-lines

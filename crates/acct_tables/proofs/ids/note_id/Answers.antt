@@ -1,7 +1,7 @@
 use Rattle.std.proofs.Common.{◌≡◌, ◌∙◌, ◌++◌, ℕ, [], append-nil, ap, sym, subst}
 use Rattle.std.specs.Prelude.{Option}
 use Rattle.std.specs.List.{cons_option}
-use Rattle.carried_tables.proofs.ids.note_id.Goals as goal
+use Rattle.acct_tables.proofs.ids.note_id.Goals as goal
 
 -- other text has no ID
 pub returns-in_default : goal.returns-in_default
