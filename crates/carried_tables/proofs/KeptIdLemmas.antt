@@ -1,8 +1,7 @@
 -- Claims: kept IDs follow what their records gain and lose (`gain-follows`, `lose-follows`, one after
--- the other `both-follow`); a change that leaves all IDs, an added record, and a change of the only
--- record of a name are such (`kept-counts`, `added-counts`, `one-counts`, and `none-counts` where the
--- name has no record). They are those of the table after an edit (`after-edit`). Way: by how many
--- records have each ID.
+-- the other `both-follow`); a change that leaves all IDs, and one of the only record of a name are such
+-- (`kept-counts`, `one-counts`, and `none-counts` where the name has no record). They are those of the
+-- table after an edit (`after-edit`). Way: by how many records have each ID.
 use Rattle.std.proofs.Common.{◌≡◌, ◌∙◌, ℕ, ◌+◌, ◌<◌, ◌≤◌, Bool, true, false, List, [], ◌∷◌, ◌++◌, cond, map, refl, sym, ap, ap₂, subst, inl, inr, arith, zero-add, length, take, get_or}
 use Rattle.std.specs.Prelude.{Option, Some, None, is_some, find, flat_map, nat_le, not, option_map, if◌then◌else◌, ◌==◌, ◌&&◌, ◌||◌}
 use Rattle.std.proofs.lemmas.Bool.{cases_Bool, cases_eq, cases_lt, eq-eqb, false≢true, le-leb, leb-true, ne_eqb}
@@ -328,16 +327,6 @@ module _ {R : Type 0} (format : Format R) (id_of : R → ℕ) (f : R → List R)
 -- ---- The table
 
 module _ {R : Type 0} (format : Format R) (id_of : R → ℕ) where
-  -- a record that is added adds its ID
-  pub added-counts :
-      (records : List R) (r : R) (id : ℕ)
-      → counts_of (map id_of (records ++ r ∷ [])) id + counts_of [] id
-      ≡ counts_of (map id_of records) id + counts_of (id_of r ∷ []) id
-  added-counts records r id =
-      let more = ap (λ ids. counts_of ids id) (map-append id_of records (r ∷ []))
-      ∙ counts-both (map id_of records) (id_of r ∷ []) id in
-      plus-none more
-
   -- the IDs that are kept for the edited records are those of the table after the edit
   pub after-edit :
       (edit : Edit R) (file : Option (List ℕ)) (kept : KeptIds)

@@ -30,18 +30,7 @@ pub(crate) fn removal_by(edit: &Edit<SubidRecord, SubidChange>) -> Option<Remova
         ≡ Become (subid_becomes (SubidChange.Remove removal.name.now removal.uid))) }
 {
     match edit {
-        Edit::Become(change) => removal_of(change),
-        _ => None,
-    }
-}
-
-// The removal that the change is, if it is one.
-fn removal_of(change: &SubidChange) -> Option<Removal<'_>>
-    ensures { IfSome result (λ removal.
-        change.now ≡ SubidChange.Remove removal.name.now removal.uid) }
-{
-    match change {
-        SubidChange::Remove(name, uid) => Some(Removal {
+        Edit::Become(SubidChange::Remove(name, uid)) => Some(Removal {
             name: name.as_slice(),
             uid: *uid,
         }),

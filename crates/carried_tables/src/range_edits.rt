@@ -81,8 +81,8 @@ fn first_cut(edits: &[Edit<SubidRecord, SubidChange>]) -> usize
     edits.len()
 }
 
-// The IDs that the edit removes, if it removes some.
-fn cut_of(edit: &Edit<SubidRecord, SubidChange>) -> Option<&RangeCut>
+/// The IDs that the edit removes, if it removes some.
+pub(crate) fn cut_of(edit: &Edit<SubidRecord, SubidChange>) -> Option<&RangeCut>
     ensures { IfSome result (λ cut.
         seen_edit subid_becomes edit.now ≡ Become (subid_becomes (SubidChange.Cut cut.now))) }
 {

@@ -10,7 +10,7 @@ ghost use Rattle.table.specs.Standing.{IsTaken};
 ghost use Rattle.table.specs.TableEdits.{AreWritten, table_by};
 ghost use Rattle.line_edits.specs.SubidChanges.{subid_becomes};
 
-use crate::range_edits::edited_ranges;
+use crate::range_edits::{cut_of, edited_ranges};
 use crate::touched_tables::take_edited;
 use acct_lines::SubidRecord;
 use acct_tables::text_of;
@@ -134,7 +134,7 @@ impl<'a> RangeTable<'a> {
     {
         match &self.numbers {
             Some(numbers) => Ok(numbers.free_gap(min, max, count)),
-            None => gap_in(alloc, self.table.seen()?.file(), min, max, count),
+            None => free_gap_in(alloc, text_of(self.table.seen()?.file()), min, max, count),
         }
     }
 
@@ -178,30 +178,7 @@ impl<'a> RangeTable<'a> {
 
 // Whether the edits are many, and one of them takes IDs out of ranges.
 fn are_many_with_cut(edits: &[Edit<SubidRecord, SubidChange>]) -> bool {
-    edits.len() >= MANY_WITH_CUT && edits.iter().any(|edit| is_cut(edit))
-}
-
-// Whether the edit takes IDs out of ranges.
-fn is_cut(edit: &Edit<SubidRecord, SubidChange>) -> bool {
-    match edit {
-        Edit::Become(change) => matches!(change, SubidChange::Cut(_)),
-        Edit::Add(_) | Edit::AddMissing(_) | Edit::Put(_) => false,
-    }
-}
-
-// The least start among the ranges of the file, as `free_gap` has it.
-fn gap_in(
-    alloc: Global,
-    file: &Option<Bytes>,
-    min: u32,
-    max: u32,
-    count: u32,
-) -> Result<Option<u32>, AllocError>
-    requires { 0 < count }
-    ensures { IfOk result (λ start.
-        start ≡ free_range min max count (table_records subid_format file.now)) }
-{
-    free_gap_in(alloc, text_of(file), min, max, count)
+    edits.len() >= MANY_WITH_CUT && edits.iter().any(|edit| cut_of(edit).is_some())
 }
 
 // The bytes of the file after the edits, where they are others.
