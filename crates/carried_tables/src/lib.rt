@@ -7,13 +7,14 @@
 //! subordinate IDs with the numbers that their ranges take (`range_table`). In the end the tables that
 //! differ from the files are taken out, where they were edited (`touched_tables`).
 //!
-//! `ids` has the IDs that are used in a file, and what edits do with them; `in_use` is how they are answered.
-//! A `RangeTable` decides how edits of ranges are made. Without an index `range_edits` makes them in the text: removals of IDs
-//! from one owner that follow one another in one pass over the lines, of which `cut_ranges` has what is
-//! left of one range; and the removal of all ranges of an owner (`removed_owner`). By an index
-//! `edits_in_place` makes them: a range that comes, an owner that gets another name, one whose ranges go,
-//! and one whose only range loses an end take no pass over the lines. How the numbers follow an edit is in
-//! `range_numbers`, and which edits take from the ranges of one owner in `owner_edits`.
+//! `ids` has the IDs that are used in a file, and what edits do with them; `in_use` is how they are
+//! answered. A `RangeTable` decides how edits of ranges are made. Without an index `range_edits` makes
+//! them in the text: removals of IDs from one owner that follow one another in one pass over the lines,
+//! of which `cut_ranges` has what is left of one range; and the removal of all ranges of an owner
+//! (`removed_owner`). By an index `edits_in_place` makes them: a range that comes, an owner that gets
+//! another name, one whose ranges go, and one whose only range loses an end take no pass over the
+//! lines. How the numbers follow an edit is in `range_numbers`, and which edits take from the ranges of
+//! one owner in `owner_edits`.
 #![tactic(auto)]
 
 mod carried_tables;
