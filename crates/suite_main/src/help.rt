@@ -2,7 +2,9 @@
 // has its use, its options in the order of the manual page, its rules as they are told where they
 // are broken, and its statuses.
 
-ghost use Rattle.std.specs.Prelude.{◌≡◌, true};
+ghost use Rattle.std.specs.Prelude.{◌≡◌, true, map};
+ghost use lib.Pointwise.{pointwise};
+ghost use Rattle.account_model.specs.Words.{tools};
 ghost use Rattle.suite_main.specs.HelpTexts.{helps_with, names_tools};
 
 mod batch;
@@ -21,7 +23,7 @@ mod grpck;
 mod grpconv;
 mod grpunconv;
 mod passwd;
-mod plan;
+pub(crate) mod plan;
 mod pwck;
 mod pwconv;
 mod pwunconv;
@@ -91,38 +93,40 @@ Exit status, where no tool has answered:
 "
 }
 
-/// The text of plans.
-pub(crate) fn text_of_plans() -> &'static str {
-    plan::text()
-}
-
-/// The text of a tool: its use, and the options and rules by which the tool's words are read, in lines
-/// of at most 80 columns.
+/// The text of a tool: its use, and the options and rules by which the tool's words are read, in
+/// lines of at most 80 columns.
 pub(crate) fn text_of(tool: Tool) -> &'static str
     ensures { helps_with tool result.now ≡ true }
 {
-    match tool {
-        Tool::Useradd => useradd::text(),
-        Tool::Usermod => usermod::text(),
-        Tool::Userdel => userdel::text(),
-        Tool::Chfn => chfn::text(),
-        Tool::Chsh => chsh::text(),
-        Tool::Groupadd => groupadd::text(),
-        Tool::Groupmod => groupmod::text(),
-        Tool::Groupdel => groupdel::text(),
-        Tool::Gpasswd => gpasswd::text(),
-        Tool::Groupmems => groupmems::text(),
-        Tool::Chage => chage::text(),
-        Tool::Chpasswd => chpasswd::text(),
-        Tool::Chgpasswd => chgpasswd::text(),
-        Tool::Passwd => passwd::text(),
-        Tool::Pwconv => pwconv::text(),
-        Tool::Pwunconv => pwunconv::text(),
-        Tool::Grpconv => grpconv::text(),
-        Tool::Grpunconv => grpunconv::text(),
-        Tool::Pwck => pwck::text(),
-        Tool::Grpck => grpck::text(),
-        Tool::Getsubids => getsubids::text(),
-        Tool::Batch => batch::text(),
-    }
+    texts()[tool as usize]
+}
+
+// The texts of the tools, in the order of the enum.
+fn texts() -> [&'static str; 22]
+    ensures { pointwise helps_with tools (map (λ text. text.now) result) ≡ true }
+{
+    [
+        useradd::TEXT,
+        usermod::TEXT,
+        userdel::TEXT,
+        chfn::TEXT,
+        chsh::TEXT,
+        groupadd::TEXT,
+        groupmod::TEXT,
+        groupdel::TEXT,
+        gpasswd::TEXT,
+        groupmems::TEXT,
+        chage::TEXT,
+        chpasswd::TEXT,
+        chgpasswd::TEXT,
+        passwd::TEXT,
+        pwconv::TEXT,
+        pwunconv::TEXT,
+        grpconv::TEXT,
+        grpunconv::TEXT,
+        pwck::TEXT,
+        grpck::TEXT,
+        getsubids::TEXT,
+        batch::TEXT,
+    ]
 }

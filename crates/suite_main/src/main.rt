@@ -12,7 +12,7 @@ mod words;
 
 use acct_outside::{Sink, SinkFault};
 use acct_text::{Bytes, Word};
-use help::{VERSION, text_of, text_of_plans, text_of_suite};
+use help::{VERSION, plan, text_of, text_of_suite};
 use input::named_file;
 use open_line::OpenLine;
 use real_folder::{RealClock, RealFolder, RealSink, RealSource, SystemError};
@@ -65,7 +65,7 @@ fn answer<
     match request_of(words) {
         Request::Help => Ok(tell(out, text_of_suite(), 0)),
         Request::ToolHelp(tool) => Ok(tell(out, text_of(tool), 0)),
-        Request::PlanHelp => Ok(tell(out, text_of_plans(), 0)),
+        Request::PlanHelp => Ok(tell(out, plan::TEXT, 0)),
         Request::Version => Ok(tell(out, VERSION, 0)),
         Request::Rehearsal => Ok(run_rehearsal(rt.alloc(), words, out, err)),
         Request::Suite => match named_file(rt.alloc(), words)? {

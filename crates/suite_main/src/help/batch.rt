@@ -1,13 +1,5 @@
-// What `accounts batch --help` prints. No manual page of shadow-utils has the tool.
-ghost use Rattle.std.specs.Prelude.{◌≡◌, true};
-ghost use Rattle.account_model.specs.declared.tool.Tool.TheVariants.{Batch};
-ghost use Rattle.suite_main.specs.HelpTexts.{helps_with};
-
-/// The text: the use of batch, its options and rules and no others, in lines of at most 80 columns.
-pub(crate) fn text() -> &'static str
-    ensures { helps_with Batch result.now ≡ true }
-{
-    "\
+/// What `accounts batch --help` prints. No manual page of shadow-utils has the tool.
+pub(crate) const TEXT: &str = "\
 Usage: accounts batch -P DIR [--ensure] [FILE]
        accounts batch --help
 
@@ -38,5 +30,4 @@ Exit status:
 
 Where a command of a line is refused, the status is that of its tool, and the
 message names the line.
-"
-}
+";

@@ -1,13 +1,5 @@
-// What `accounts chage --help` prints (chage(1)).
-ghost use Rattle.std.specs.Prelude.{◌≡◌, true};
-ghost use Rattle.account_model.specs.declared.tool.Tool.TheVariants.{Chage};
-ghost use Rattle.suite_main.specs.HelpTexts.{helps_with};
-
-/// The text: the use of chage, its options and rules and no others, in lines of at most 80 columns.
-pub(crate) fn text() -> &'static str
-    ensures { helps_with Chage result.now ≡ true }
-{
-    "\
+/// What `accounts chage --help` prints (chage(1)).
+pub(crate) const TEXT: &str = "\
 Usage: accounts chage -P DIR options LOGIN
        accounts chage --help
 
@@ -41,5 +33,4 @@ Exit status:
   100  want of memory
   102  the output or the message can't be written
   103  the clock gives no day
-"
-}
+";

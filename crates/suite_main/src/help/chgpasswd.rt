@@ -1,13 +1,5 @@
-// What `accounts chgpasswd --help` prints (chgpasswd(8)).
-ghost use Rattle.std.specs.Prelude.{◌≡◌, true};
-ghost use Rattle.account_model.specs.declared.tool.Tool.TheVariants.{Chgpasswd};
-ghost use Rattle.suite_main.specs.HelpTexts.{helps_with};
-
-/// The text: the use of chgpasswd, its options and rules and no others, in lines of at most 80 columns.
-pub(crate) fn text() -> &'static str
-    ensures { helps_with Chgpasswd result.now ≡ true }
-{
-    "\
+/// What `accounts chgpasswd --help` prints (chgpasswd(8)).
+pub(crate) const TEXT: &str = "\
 Usage: accounts chgpasswd -P DIR -e
        accounts chgpasswd --help
 
@@ -31,5 +23,4 @@ Exit status:
   101  the input can't be read
   102  the output or the message can't be written
   103  the clock gives no day
-"
-}
+";

@@ -1,13 +1,5 @@
-// What `accounts chpasswd --help` prints (chpasswd(8)).
-ghost use Rattle.std.specs.Prelude.{◌≡◌, true};
-ghost use Rattle.account_model.specs.declared.tool.Tool.TheVariants.{Chpasswd};
-ghost use Rattle.suite_main.specs.HelpTexts.{helps_with};
-
-/// The text: the use of chpasswd, its options and rules and no others, in lines of at most 80 columns.
-pub(crate) fn text() -> &'static str
-    ensures { helps_with Chpasswd result.now ≡ true }
-{
-    "\
+/// What `accounts chpasswd --help` prints (chpasswd(8)).
+pub(crate) const TEXT: &str = "\
 Usage: accounts chpasswd -P DIR -e
        accounts chpasswd --help
 
@@ -31,5 +23,4 @@ Exit status:
   101  the input can't be read
   102  the output or the message can't be written
   103  the clock gives no day
-"
-}
+";

@@ -1,13 +1,5 @@
-// What `accounts gpasswd --help` prints (gpasswd(1)).
-ghost use Rattle.std.specs.Prelude.{◌≡◌, true};
-ghost use Rattle.account_model.specs.declared.tool.Tool.TheVariants.{Gpasswd};
-ghost use Rattle.suite_main.specs.HelpTexts.{helps_with};
-
-/// The text: the use of gpasswd, its options and rules and no others, in lines of at most 80 columns.
-pub(crate) fn text() -> &'static str
-    ensures { helps_with Gpasswd result.now ≡ true }
-{
-    "\
+/// What `accounts gpasswd --help` prints (gpasswd(1)).
+pub(crate) const TEXT: &str = "\
 Usage: accounts gpasswd -P DIR option GROUP
        accounts gpasswd --help
 
@@ -38,5 +30,4 @@ Exit status:
   100  want of memory
   102  the output or the message can't be written
   103  the clock gives no day
-"
-}
+";

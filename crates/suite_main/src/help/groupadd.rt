@@ -1,13 +1,5 @@
-// What `accounts groupadd --help` prints (groupadd(8)).
-ghost use Rattle.std.specs.Prelude.{◌≡◌, true};
-ghost use Rattle.account_model.specs.declared.tool.Tool.TheVariants.{Groupadd};
-ghost use Rattle.suite_main.specs.HelpTexts.{helps_with};
-
-/// The text: the use of groupadd, its options and rules and no others, in lines of at most 80 columns.
-pub(crate) fn text() -> &'static str
-    ensures { helps_with Groupadd result.now ≡ true }
-{
-    "\
+/// What `accounts groupadd --help` prints (groupadd(8)).
+pub(crate) const TEXT: &str = "\
 Usage: accounts groupadd -P DIR [options] GROUP
        accounts groupadd --help
 
@@ -38,5 +30,4 @@ Exit status:
   100  want of memory
   102  the output or the message can't be written
   103  the clock gives no day
-"
-}
+";

@@ -1,13 +1,5 @@
-// What `accounts groupdel --help` prints (groupdel(8)).
-ghost use Rattle.std.specs.Prelude.{◌≡◌, true};
-ghost use Rattle.account_model.specs.declared.tool.Tool.TheVariants.{Groupdel};
-ghost use Rattle.suite_main.specs.HelpTexts.{helps_with};
-
-/// The text: the use of groupdel, its options and rules and no others, in lines of at most 80 columns.
-pub(crate) fn text() -> &'static str
-    ensures { helps_with Groupdel result.now ≡ true }
-{
-    "\
+/// What `accounts groupdel --help` prints (groupdel(8)).
+pub(crate) const TEXT: &str = "\
 Usage: accounts groupdel -P DIR [options] GROUP
        accounts groupdel --help
 
@@ -28,5 +20,4 @@ Exit status:
   100  want of memory
   102  the output or the message can't be written
   103  the clock gives no day
-"
-}
+";

@@ -1,13 +1,5 @@
-// What `accounts groupmems --help` prints (groupmems(8)).
-ghost use Rattle.std.specs.Prelude.{◌≡◌, true};
-ghost use Rattle.account_model.specs.declared.tool.Tool.TheVariants.{Groupmems};
-ghost use Rattle.suite_main.specs.HelpTexts.{helps_with};
-
-/// The text: the use of groupmems, its options and rules and no others, in lines of at most 80 columns.
-pub(crate) fn text() -> &'static str
-    ensures { helps_with Groupmems result.now ≡ true }
-{
-    "\
+/// What `accounts groupmems --help` prints (groupmems(8)).
+pub(crate) const TEXT: &str = "\
 Usage: accounts groupmems -P DIR -g GROUP option
        accounts groupmems --help
 
@@ -36,5 +28,4 @@ Exit status:
   100  want of memory
   102  the output or the message can't be written
   103  the clock gives no day
-"
-}
+";

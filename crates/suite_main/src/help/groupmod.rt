@@ -1,13 +1,5 @@
-// What `accounts groupmod --help` prints (groupmod(8)).
-ghost use Rattle.std.specs.Prelude.{◌≡◌, true};
-ghost use Rattle.account_model.specs.declared.tool.Tool.TheVariants.{Groupmod};
-ghost use Rattle.suite_main.specs.HelpTexts.{helps_with};
-
-/// The text: the use of groupmod, its options and rules and no others, in lines of at most 80 columns.
-pub(crate) fn text() -> &'static str
-    ensures { helps_with Groupmod result.now ≡ true }
-{
-    "\
+/// What `accounts groupmod --help` prints (groupmod(8)).
+pub(crate) const TEXT: &str = "\
 Usage: accounts groupmod -P DIR [options] GROUP
        accounts groupmod --help
 
@@ -37,5 +29,4 @@ Exit status:
   100  want of memory
   102  the output or the message can't be written
   103  the clock gives no day
-"
-}
+";

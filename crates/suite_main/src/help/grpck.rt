@@ -1,13 +1,5 @@
-// What `accounts grpck --help` prints (grpck(8)).
-ghost use Rattle.std.specs.Prelude.{◌≡◌, true};
-ghost use Rattle.account_model.specs.declared.tool.Tool.TheVariants.{Grpck};
-ghost use Rattle.suite_main.specs.HelpTexts.{helps_with};
-
-/// The text: the use of grpck, its options and rules and no others, in lines of at most 80 columns.
-pub(crate) fn text() -> &'static str
-    ensures { helps_with Grpck result.now ≡ true }
-{
-    "\
+/// What `accounts grpck --help` prints (grpck(8)).
+pub(crate) const TEXT: &str = "\
 Usage: accounts grpck -P DIR option
        accounts grpck --help
 
@@ -33,5 +25,4 @@ Exit status:
   100  want of memory
   102  the output or the message can't be written
   103  the clock gives no day
-"
-}
+";

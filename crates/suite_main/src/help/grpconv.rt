@@ -1,13 +1,5 @@
-// What `accounts grpconv --help` prints (grpconv(8)).
-ghost use Rattle.std.specs.Prelude.{◌≡◌, true};
-ghost use Rattle.account_model.specs.declared.tool.Tool.TheVariants.{Grpconv};
-ghost use Rattle.suite_main.specs.HelpTexts.{helps_with};
-
-/// The text: the use of grpconv and its options and no others, in lines of at most 80 columns.
-pub(crate) fn text() -> &'static str
-    ensures { helps_with Grpconv result.now ≡ true }
-{
-    "\
+/// What `accounts grpconv --help` prints (grpconv(8)).
+pub(crate) const TEXT: &str = "\
 Usage: accounts grpconv -P DIR
        accounts grpconv --help
 
@@ -26,5 +18,4 @@ Exit status:
   100  want of memory
   102  the output or the message can't be written
   103  the clock gives no day
-"
-}
+";

@@ -1,13 +1,5 @@
-// What `accounts grpunconv --help` prints (grpunconv(8)).
-ghost use Rattle.std.specs.Prelude.{◌≡◌, true};
-ghost use Rattle.account_model.specs.declared.tool.Tool.TheVariants.{Grpunconv};
-ghost use Rattle.suite_main.specs.HelpTexts.{helps_with};
-
-/// The text: the use of grpunconv and its options and no others, in lines of at most 80 columns.
-pub(crate) fn text() -> &'static str
-    ensures { helps_with Grpunconv result.now ≡ true }
-{
-    "\
+/// What `accounts grpunconv --help` prints (grpunconv(8)).
+pub(crate) const TEXT: &str = "\
 Usage: accounts grpunconv -P DIR
        accounts grpunconv --help
 
@@ -26,5 +18,4 @@ Exit status:
   100  want of memory
   102  the output or the message can't be written
   103  the clock gives no day
-"
-}
+";

@@ -1,13 +1,5 @@
-// What `accounts passwd --help` prints (passwd(1)).
-ghost use Rattle.std.specs.Prelude.{◌≡◌, true};
-ghost use Rattle.account_model.specs.declared.tool.Tool.TheVariants.{Passwd};
-ghost use Rattle.suite_main.specs.HelpTexts.{helps_with};
-
-/// The text: the use of passwd, its options and rules and no others, in lines of at most 80 columns.
-pub(crate) fn text() -> &'static str
-    ensures { helps_with Passwd result.now ≡ true }
-{
-    "\
+/// What `accounts passwd --help` prints (passwd(1)).
+pub(crate) const TEXT: &str = "\
 Usage: accounts passwd -P DIR options LOGIN
        accounts passwd --help
 
@@ -45,5 +37,4 @@ Exit status:
   100  want of memory
   102  the output or the message can't be written
   103  the clock gives no day
-"
-}
+";

@@ -1,8 +1,5 @@
-// What `accounts plan --help` prints. No manual page of shadow-utils has plans.
-
-/// The text: how a plan is asked for, and its forms, in lines of at most 80 columns.
-pub(crate) fn text() -> &'static str {
-    "\
+/// What `accounts plan --help` prints. No manual page of shadow-utils has plans.
+pub(crate) const TEXT: &str = "\
 Usage: accounts plan [--diff | --json] TOOL -P DIR [options] [operand]
        accounts plan --help
 
@@ -27,5 +24,4 @@ Options, right behind plan:
                                 subordinate IDs, and the sizes of the tables
 
 Exit status: that of the command.
-"
-}
+";

@@ -1,13 +1,5 @@
-// What `accounts pwck --help` prints (pwck(8)).
-ghost use Rattle.std.specs.Prelude.{◌≡◌, true};
-ghost use Rattle.account_model.specs.declared.tool.Tool.TheVariants.{Pwck};
-ghost use Rattle.suite_main.specs.HelpTexts.{helps_with};
-
-/// The text: the use of pwck, its options and rules and no others, in lines of at most 80 columns.
-pub(crate) fn text() -> &'static str
-    ensures { helps_with Pwck result.now ≡ true }
-{
-    "\
+/// What `accounts pwck --help` prints (pwck(8)).
+pub(crate) const TEXT: &str = "\
 Usage: accounts pwck -P DIR option
        accounts pwck --help
 
@@ -34,5 +26,4 @@ Exit status:
   100  want of memory
   102  the output or the message can't be written
   103  the clock gives no day
-"
-}
+";

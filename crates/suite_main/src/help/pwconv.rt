@@ -1,13 +1,5 @@
-// What `accounts pwconv --help` prints (pwconv(8)).
-ghost use Rattle.std.specs.Prelude.{◌≡◌, true};
-ghost use Rattle.account_model.specs.declared.tool.Tool.TheVariants.{Pwconv};
-ghost use Rattle.suite_main.specs.HelpTexts.{helps_with};
-
-/// The text: the use of pwconv and its options and no others, in lines of at most 80 columns.
-pub(crate) fn text() -> &'static str
-    ensures { helps_with Pwconv result.now ≡ true }
-{
-    "\
+/// What `accounts pwconv --help` prints (pwconv(8)).
+pub(crate) const TEXT: &str = "\
 Usage: accounts pwconv -P DIR
        accounts pwconv --help
 
@@ -26,5 +18,4 @@ Exit status:
   100  want of memory
   102  the output or the message can't be written
   103  the clock gives no day
-"
-}
+";

@@ -1,13 +1,5 @@
-// What `accounts pwunconv --help` prints (pwunconv(8)).
-ghost use Rattle.std.specs.Prelude.{◌≡◌, true};
-ghost use Rattle.account_model.specs.declared.tool.Tool.TheVariants.{Pwunconv};
-ghost use Rattle.suite_main.specs.HelpTexts.{helps_with};
-
-/// The text: the use of pwunconv and its options and no others, in lines of at most 80 columns.
-pub(crate) fn text() -> &'static str
-    ensures { helps_with Pwunconv result.now ≡ true }
-{
-    "\
+/// What `accounts pwunconv --help` prints (pwunconv(8)).
+pub(crate) const TEXT: &str = "\
 Usage: accounts pwunconv -P DIR
        accounts pwunconv --help
 
@@ -26,5 +18,4 @@ Exit status:
   100  want of memory
   102  the output or the message can't be written
   103  the clock gives no day
-"
-}
+";

@@ -1,13 +1,5 @@
-// What `accounts useradd --help` prints (useradd(8)).
-ghost use Rattle.std.specs.Prelude.{◌≡◌, true};
-ghost use Rattle.account_model.specs.declared.tool.Tool.TheVariants.{Useradd};
-ghost use Rattle.suite_main.specs.HelpTexts.{helps_with};
-
-/// The text: the use of useradd, its options and rules and no others, in lines of at most 80 columns.
-pub(crate) fn text() -> &'static str
-    ensures { helps_with Useradd result.now ≡ true }
-{
-    "\
+/// What `accounts useradd --help` prints (useradd(8)).
+pub(crate) const TEXT: &str = "\
 Usage: accounts useradd -P DIR [options] LOGIN
        accounts useradd --help
 
@@ -56,5 +48,4 @@ Exit status:
   100  want of memory
   102  the output or the message can't be written
   103  the clock gives no day
-"
-}
+";

@@ -1,13 +1,5 @@
-// What `accounts userdel --help` prints (userdel(8)).
-ghost use Rattle.std.specs.Prelude.{◌≡◌, true};
-ghost use Rattle.account_model.specs.declared.tool.Tool.TheVariants.{Userdel};
-ghost use Rattle.suite_main.specs.HelpTexts.{helps_with};
-
-/// The text: the use of userdel, its options and rules and no others, in lines of at most 80 columns.
-pub(crate) fn text() -> &'static str
-    ensures { helps_with Userdel result.now ≡ true }
-{
-    "\
+/// What `accounts userdel --help` prints (userdel(8)).
+pub(crate) const TEXT: &str = "\
 Usage: accounts userdel -P DIR [options] LOGIN
        accounts userdel --help
 
@@ -29,5 +21,4 @@ Exit status:
   100  want of memory
   102  the output or the message can't be written
   103  the clock gives no day
-"
-}
+";

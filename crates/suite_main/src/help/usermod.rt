@@ -1,13 +1,5 @@
-// What `accounts usermod --help` prints (usermod(8)).
-ghost use Rattle.std.specs.Prelude.{◌≡◌, true};
-ghost use Rattle.account_model.specs.declared.tool.Tool.TheVariants.{Usermod};
-ghost use Rattle.suite_main.specs.HelpTexts.{helps_with};
-
-/// The text: the use of usermod, its options and rules and no others, in lines of at most 80 columns.
-pub(crate) fn text() -> &'static str
-    ensures { helps_with Usermod result.now ≡ true }
-{
-    "\
+/// What `accounts usermod --help` prints (usermod(8)).
+pub(crate) const TEXT: &str = "\
 Usage: accounts usermod -P DIR [options] LOGIN
        accounts usermod --help
 
@@ -58,5 +50,4 @@ Exit status:
   100  want of memory
   102  the output or the message can't be written
   103  the clock gives no day
-"
-}
+";

@@ -1,59 +1,27 @@
--- The text of each tool is that of its file.
-use Rattle.std.proofs.Common.{◌≡◌, true, sym, subst}
+-- Claim: the text at the tool's number is that of the tool. Way: the texts are those of the tools,
+-- one by one (`at-place`), and a tool's number is its place among them.
+use Rattle.std.proofs.Common.{rules, ◌≡◌, true, Bool, ℕ, zero, suc, List, [], ◌∷◌, map, slice_index_or, slice_get, Some, Bor}
+use Rattle.std.specs.Cmp.{first_so, second_so}
+use lib.Pointwise.{pointwise}
+use Rattle.account_model.specs.declared.tool.Tool.{Tool}
+use Rattle.account_model.specs.Words.{tools}
 use Rattle.suite_main.specs.HelpTexts.{helps_with}
 use Rattle.suite_main.proofs.help.text_of.Goals as goal
 
-pub returns-in-Useradd : goal.returns-in-Useradd
-returns-in-Useradd c =
-    subst (λ tool. helps_with tool c.text.result.now ≡ true) (sym c.in-Useradd.is)
-    c.text.ensures
+-- what holds of two lists one by one holds at each place
+at-place :
+    (holds : Tool → List ℕ → Bool) (named : List Tool) (texts : List (Bor (List ℕ)))
+    (place : ℕ) (tool : Tool) (none : Bor (List ℕ))
+    → pointwise holds named (map (λ text. text.now) texts) ≡ true
+    → slice_get named place ≡ Some tool
+    → holds tool (slice_index_or texts place none).now ≡ true
+at-place holds [] texts place tool none hold is = absurd (cc)
+at-place holds (first ∷ named) [] place tool none hold is = absurd (cc)
+at-place holds (first ∷ named) (text ∷ texts) zero tool none hold is =
+    grind (rules, first_so)
+at-place holds (first ∷ named) (text ∷ texts) (suc place) tool none hold is =
+    at-place holds named texts place tool none (second_so _ _ hold) is
 
-pub returns-in-Usermod : goal.returns-in-Usermod
-returns-in-Usermod c =
-    subst (λ tool. helps_with tool c.text-in-Usermod.result.now ≡ true) (sym c.in-Usermod.is)
-    c.text-in-Usermod.ensures
-
-pub returns-in-Chfn : goal.returns-in-Chfn
-returns-in-Chfn c =
-    subst (λ tool. helps_with tool c.text-in-Chfn.result.now ≡ true) (sym c.in-Chfn.is)
-    c.text-in-Chfn.ensures
-
-pub returns-in-Groupadd : goal.returns-in-Groupadd
-returns-in-Groupadd c =
-    subst (λ tool. helps_with tool c.text-in-Groupadd.result.now ≡ true) (sym c.in-Groupadd.is)
-    c.text-in-Groupadd.ensures
-
-pub returns-in-Groupmod : goal.returns-in-Groupmod
-returns-in-Groupmod c =
-    subst (λ tool. helps_with tool c.text-in-Groupmod.result.now ≡ true) (sym c.in-Groupmod.is)
-    c.text-in-Groupmod.ensures
-
-pub returns-in-Gpasswd : goal.returns-in-Gpasswd
-returns-in-Gpasswd c =
-    subst (λ tool. helps_with tool c.text-in-Gpasswd.result.now ≡ true) (sym c.in-Gpasswd.is)
-    c.text-in-Gpasswd.ensures
-
-pub returns-in-Groupmems : goal.returns-in-Groupmems
-returns-in-Groupmems c =
-    subst (λ tool. helps_with tool c.text-in-Groupmems.result.now ≡ true) (sym c.in-Groupmems.is)
-    c.text-in-Groupmems.ensures
-
-pub returns-in-Chage : goal.returns-in-Chage
-returns-in-Chage c =
-    subst (λ tool. helps_with tool c.text-in-Chage.result.now ≡ true) (sym c.in-Chage.is)
-    c.text-in-Chage.ensures
-
-pub returns-in-Passwd : goal.returns-in-Passwd
-returns-in-Passwd c =
-    subst (λ tool. helps_with tool c.text-in-Passwd.result.now ≡ true) (sym c.in-Passwd.is)
-    c.text-in-Passwd.ensures
-
-pub returns-in-Pwck : goal.returns-in-Pwck
-returns-in-Pwck c =
-    subst (λ tool. helps_with tool c.text-in-Pwck.result.now ≡ true) (sym c.in-Pwck.is)
-    c.text-in-Pwck.ensures
-
-pub returns-in-Grpck : goal.returns-in-Grpck
-returns-in-Grpck c =
-    subst (λ tool. helps_with tool c.text-in-Grpck.result.now ≡ true) (sym c.in-Grpck.is)
-    c.text-in-Grpck.ensures
+pub returns : goal.returns
+returns c =
+    at-place helps_with tools c.texts.result _ c.args.tool _ c.texts.ensures (search rules)
