@@ -9,8 +9,8 @@ use Rattle.account_model.specs.declared.settings.Kind.{Kind}
 use Rattle.account_model.specs.declared.settings.Kind.TheVariants.{Regular, System}
 use Rattle.account_model.specs.declared.settings.IdSort.{IdSort}
 use Rattle.account_model.specs.declared.settings.IdSort.TheVariants.{Uid, Gid}
-use Rattle.acct_text.specs.Bytes.{is_empty, blank}
-use Rattle.account_model.specs.Text.{tab, zero_digit, hash_mark, quote, equals_sign, has_byte, nonempty, begins_with, without_first, without_last, last_of}
+use Rattle.acct_text.specs.Bytes.{is_empty, blank, zero_digit}
+use Rattle.account_model.specs.Text.{tab, hash_mark, quote, equals_sign, has_byte, nonempty, begins_with, without_first, without_last, last_of}
 use Rattle.acct_text.specs.Lines.{Line, lines_of}
 use Rattle.account_model.specs.Records.{greatest_id, greatest_days}
 

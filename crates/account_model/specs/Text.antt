@@ -44,10 +44,6 @@ dot = 46
 abbrev pub slash : ℕ
 slash = 47
 
--- a `0` begins an octal number of login.defs(5)
-abbrev pub zero_digit : ℕ
-zero_digit = 48
-
 -- a `=` parts the key and the value of a `-K` word (useradd(8))
 abbrev pub equals_sign : ℕ
 equals_sign = 61

@@ -14,6 +14,10 @@ newline = 10
 abbrev pub blank : ℕ
 blank = 32
 
+-- the byte of the digit `0`; those of the other digits follow it
+abbrev pub zero_digit : ℕ
+zero_digit = 48
+
 -- the byte between two fields of a line (passwd(5): fields delimited by colons)
 abbrev pub colon : ℕ
 colon = 58

@@ -16,14 +16,14 @@ use Rattle.std.proofs.lemmas.Str.Parse.{numerals_by_value, tells_digits}
 use Rattle.acct_text.specs.declared.Tab.{Tab}
 use Rattle.acct_text.specs.declared.Tab.TheVariants.{Passwd, Shadow, Group, Gshadow, Subuid, Subgid}
 use Rattle.acct_text.specs.declared.numbers.NumberFault.{NumberFault}
-use Rattle.acct_text.specs.Bytes.{Bytes}
+use Rattle.acct_text.specs.Bytes.{Bytes, zero_digit}
 use Rattle.std.specs.Ordering.{partial_lt}
 use Rattle.acct_text.specs.contracts.TabPartialOrd.TheImpl.{partial_cmp-value}
 use Rattle.acct_text.specs.Numbers.{number_of, number_within, number_fault}
 use Rattle.acct_text.specs.Pieces.{Lacks}
 use Rattle.acct_text.specs.Tables.{all_tables, table_name, table_place}
 use Rattle.acct_text.proofs.NumberLaws.{number_of-within, number-is}
-use Rattle.intent_file.specs.Cursor.{Takes, ReadsAs, HasLeadingZero, zero_digit, IsBetween, comes_behind, word_part}
+use Rattle.intent_file.specs.Cursor.{Takes, ReadsAs, HasLeadingZero, IsBetween, comes_behind, word_part}
 use Rattle.intent_file.specs.Intent.{NewTable}
 use Rattle.intent_file.specs.Parts.{BeginsWith, BeginsWithNone}
 use Rattle.intent_file.proofs.PartsLemmas.{word_cut, decimal_lacks}

@@ -13,7 +13,7 @@ use Rattle.std.proofs.lemmas.List.{append_cancel_left}
 use Rattle.std.proofs.lemmas.Bool.Decides.{nat_tests}
 use Rattle.acct_text.specs.declared.Tab.{Tab}
 use Rattle.acct_text.specs.declared.Tab.TheVariants.{Passwd}
-use Rattle.acct_text.specs.Bytes.{Bytes, newline, blank}
+use Rattle.acct_text.specs.Bytes.{Bytes, newline, blank, zero_digit}
 use Rattle.acct_text.specs.Limits.{table_limit}
 use Rattle.acct_text.specs.Pieces.{Lacks}
 use Rattle.acct_text.specs.Tables.{table_name}
@@ -21,7 +21,7 @@ use Rattle.acct_outside.specs.Names.{greatest_lock}
 use Rattle.intent_file.specs.declared.Version.{Version}
 use Rattle.intent_file.specs.declared.Version.TheVariants.{One, Two}
 use Rattle.intent_file.specs.declared.cursor.Header.{Header}
-use Rattle.intent_file.specs.Cursor.{zero_digit, word_part, number_part, version_part, count_part, name_part}
+use Rattle.intent_file.specs.Cursor.{word_part, number_part, version_part, count_part, name_part}
 use Rattle.intent_file.specs.Intent.{NewTable, table_part, table_parts, is_within_limit, is_lock_number, table_of_name, version_number, version_of}
 use Rattle.intent_file.specs.Parts.{BeginsWith, AreListed, IsHeader, IsNext, header_part}
 

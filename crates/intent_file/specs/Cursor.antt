@@ -1,7 +1,7 @@
 -- What a cursor takes of a text: the part that its bytes begin with, or nothing.
 use Rattle.std.specs.Prelude.{◌≡◌, ◌≢◌, ℕ, ◌+◌, ◌<◌, ◌≤◌, Bool, true, nat_lt, List, [], ◌∷◌, ◌++◌, length, Option, MatchOption, slice_index, codes, decimal, ⊤}
 use Rattle.acct_text.specs.declared.Tab.{Tab}
-use Rattle.acct_text.specs.Bytes.{Bytes, blank}
+use Rattle.acct_text.specs.Bytes.{Bytes, blank, zero_digit}
 use Rattle.acct_text.specs.Tables.{table_name, table_place}
 use Rattle.intent_file.specs.declared.IntentFault.{IntentFault}
 use Rattle.intent_file.specs.declared.Version.{Version}
@@ -37,10 +37,6 @@ ReadsAs {Value} MayStand part text result =
     MatchOption result
     ((value : Value) → MayStand value → text ≢ part value)
     (λ value. MayStand value × (text ≡ part value))
-
--- the byte of the digit `0`; those of the other digits follow it
-abbrev pub zero_digit : ℕ
-zero_digit = 48
 
 -- there are more digits than one, and the first is `0`
 abbrev pub HasLeadingZero : Bytes → Type 0

@@ -3,11 +3,11 @@
 // Where a call answers none, the text has no such part there, and the cursor is of no more use.
 ghost use Rattle.std.specs.Prelude.{◌≡◌, ◌≤◌, ◌<◌, ◌↔◌, true, IsTrue, IfOk, IfErr, ⊤, decimal, find, bytes_eq};
 ghost use Rattle.std.specs.Option.{option_copied};
-ghost use Rattle.acct_text.specs.Bytes.{newline};
+ghost use Rattle.acct_text.specs.Bytes.{newline, zero_digit};
 ghost use Rattle.acct_text.specs.Pieces.{Lacks};
 ghost use Rattle.intent_file.specs.Intent.{table_part, end_part, is_in_order, version_of};
 ghost use Rattle.acct_text.specs.Tables.{table_name, all_tables};
-ghost use Rattle.intent_file.specs.Cursor.{Takes, TakesBefore, TakesTables, TellsLack, ReadsAs, HasLeadingZero, zero_digit, IsBetween, HasLength, word_part, number_part, name_part, version_part, count_part, comes_behind};
+ghost use Rattle.intent_file.specs.Cursor.{Takes, TakesBefore, TakesTables, TellsLack, ReadsAs, HasLeadingZero, IsBetween, HasLength, word_part, number_part, name_part, version_part, count_part, comes_behind};
 ghost use Rattle.intent_file.specs.Parts.{IsHeader, IsNext, header_part};
 
 use crate::{IntentFault, Version};
