@@ -2,7 +2,7 @@
 -- (`diff-exact`). Way: over the old lines, of which each adds itself to the old side (`old-until`), and to
 -- the new side those in front of the place where it is found, and itself (`new-until`).
 use Rattle.std.proofs.Common.{◌≡◌, ℕ, ◌+◌, Bool, true, false, List, [], ◌∷◌, ◌++◌, map, take, drop, get_or, refl, sym, ◌∙◌, ap, append_assoc}
-use Rattle.std.specs.Prelude.{Option, None, Some, not, ◌&&◌, bytes_eq, filter, position, if◌then◌else◌}
+use Rattle.std.specs.Prelude.{Option, None, Some, not, filter, position, if◌then◌else◌}
 use Rattle.std.specs.Bool.{Decides}
 use Rattle.std.proofs.lemmas.List.{map-append, take-append-drop, drop_more}
 use Rattle.std.proofs.lemmas.List.Elements.{filter-append}
@@ -10,8 +10,8 @@ use Rattle.std.proofs.lemmas.List.Quantifiers.{position-Some}
 use Rattle.std.proofs.lemmas.Bool.Decides.{Decides-and}
 use Rattle.std.proofs.lemmas.Slice.Eq.{bytes_eq-Decides}
 use Rattle.acct_text.specs.Lines.{Line, lines_of}
-use Rattle.account_model.specs.declared.fate.Fate.TheVariants.{Kept, Gone, New}
-use Rattle.account_model.specs.PlanDiff.{DiffLine, DiffsAreExact, diff_lines, fated, is_new, is_old, lines_between, lines_left, lines_that, lines_until, same_line}
+use Rattle.account_model.specs.declared.fate.Fate.TheVariants.{Kept, New}
+use Rattle.account_model.specs.PlanDiff.{DiffLine, DiffsAreExact, fated, is_new, is_old, lines_between, lines_left, lines_that, lines_until, same_line}
 
 -- the test of two ends tells whether they are the same
 same-ends : (a b : Bool) → Decides (if a then b else not b) (a ≡ b)

@@ -106,4 +106,3 @@ pub mod SettingsImage
 pub mod PlanLaws
 mod PlanRows
 pub mod DiffLaws
-pub mod ToldLaws

@@ -6,9 +6,6 @@ use Rattle.std.specs.Prelude.{Option, unwrap_or, ◌==◌, bytes_eq, if◌then�
 use Rattle.std.specs.List.{AllByRecursion, list_any}
 use Rattle.std.proofs.lemmas.Bool.{or_parts, or_from}
 use Rattle.acct_text.specs.declared.files.Files.{Files}
-use Rattle.account_model.specs.declared.records.GroupRecord.{GroupRecord}
-use Rattle.account_model.specs.declared.records.GshadowRecord.{GshadowRecord}
-use Rattle.account_model.specs.declared.records.PasswdRecord.{PasswdRecord}
 use Rattle.account_model.specs.Text.{is_listed}
 use Rattle.account_model.specs.Tables.{Script, files_after, followed_by}
 use Rattle.account_model.specs.Settings.{Setting, settings_of}
@@ -17,7 +14,7 @@ use Rattle.account_model.specs.Words.{is_batch, is_for_lines}
 use Rattle.account_model.specs.Change.{action_of}
 use Rattle.account_model.specs.BatchLines.{LineRequest, line_requests}
 use Rattle.account_model.specs.DeedLines.{DeedsKeepOrder, edits_of_deed, edits_of_lines, edits_on, is_sort}
-use Rattle.account_model.specs.NamedLines.{DeedsTouchNamed, Named, lists_any, named_by, named_by_both, named_by_deed, named_by_lines, names_group, names_gshadow, names_nothing, names_passwd}
+use Rattle.account_model.specs.NamedLines.{DeedsTouchNamed, Named, lists_any, named_by, named_by_both, named_by_deed, named_by_lines, names_nothing}
 use Rattle.account_model.proofs.LineTools.{lines-for-lines}
 use Rattle.account_model.proofs.NamedLaws.{NamesWithin, SparesUnnamed, group-parts, gshadow-parts, passwd-parts, shadow-parts, spares-composed, spares-order, spares-untouched, wider-spares}
 use Rattle.account_model.proofs.ComposedScripts.{outcome-holds}

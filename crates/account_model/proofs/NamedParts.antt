@@ -1,8 +1,6 @@
 -- The parts of scripts that spare what a command doesn't name: lines of a user that it names, and those of a group.
-use Rattle.std.proofs.Common.{◌≡◌, ℕ, Bool, false, ◌||◌, List, ◌∷◌, ◌∙◌, ap}
-use Rattle.std.specs.Prelude.{◌==◌, bytes_eq}
-use Rattle.std.specs.List.{list_any}
-use Rattle.std.proofs.lemmas.Bool.{or_parts}
+use Rattle.std.proofs.Common.{◌≡◌, ℕ, Bool, false, List, ◌∷◌, ◌∙◌, ap}
+use Rattle.std.specs.Prelude.{bytes_eq}
 use Rattle.acct_text.specs.declared.files.Files.{Files}
 use Rattle.account_model.specs.declared.records.PasswdRecord.{PasswdRecord}
 use Rattle.account_model.specs.declared.records.ShadowRecord.{ShadowRecord}
@@ -15,7 +13,7 @@ use Rattle.account_model.specs.Hashes.{elsewhere, make_gshadow, make_shadow}
 use Rattle.account_model.specs.NewAccount.{add_group}
 use Rattle.account_model.specs.Groupdel.{remove_group}
 use Rattle.account_model.specs.Edits.{each_where}
-use Rattle.account_model.specs.NamedLines.{Named, lists_any, names_group, names_gshadow, names_passwd, names_shadow}
+use Rattle.account_model.specs.NamedLines.{Named, names_group, names_gshadow, names_passwd, names_shadow}
 use Rattle.account_model.proofs.NamedLaws.{Spares, SparesUnnamed, drop-spares, group-parts, groups-spare, gshadow-parts, not-this, passwd-parts, shadow-parts, users-spare, where-spares}
 
 -- ---- Users

@@ -4,8 +4,6 @@ use Rattle.std.proofs.Common.{◌≡◌, ℕ, Bool, true, false, List, [], ◌�
 use Rattle.std.specs.Prelude.{Option, Some, None, codes, if◌then◌else◌}
 use Rattle.acct_text.specs.declared.files.Files.{Files}
 use Rattle.account_model.specs.declared.records.ShadowRecord.{ShadowRecord}
-use Rattle.account_model.specs.Format.{is_named}
-use Rattle.account_model.specs.Records.{shadow_format}
 use Rattle.account_model.specs.Written.{IsField, IsDaysNumber, IsShadow}
 use Rattle.account_model.specs.declared.tool.Tool.TheVariants.{Passwd}
 use Rattle.account_model.specs.Text.{first_some}

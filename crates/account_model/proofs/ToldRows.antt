@@ -1,17 +1,16 @@
 -- What plans print of changes of short files, each row decided by computing; the diffs are those that
 -- `diff -u` prints of the files.
-use Rattle.std.specs.Prelude.{◌≡◌, List, [], ◌∷◌, ◌++◌, codes, refl, Some}
+use Rattle.std.specs.Prelude.{◌≡◌, [], ◌∷◌, ◌++◌, codes, refl, Some}
 use Rattle.std.specs.Fmt.{digits}
 use Rattle.std.specs.Str.{is_utf8, chars}
 use Rattle.std.specs.Str.Lossy.{utf8_lossy, utf8_valid_len, utf8_error_len}
 use lib.Utf8.{encode}
-use Rattle.acct_text.specs.declared.files.Files.{Files}
 use Rattle.acct_text.specs.Bytes.{Bytes}
 use Rattle.account_model.specs.declared.plan_form.PlanForm.{PlanForm}
 use Rattle.account_model.specs.declared.plan_form.PlanForm.TheVariants.{Sizes, Diff, Json}
 use Rattle.account_model.specs.PlanTexts.{told}
 use Rattle.account_model.specs.PlanJson.{json_string}
-use Rattle.account_model.proofs.Commands.{lines, nothing, small}
+use Rattle.account_model.proofs.Commands.{lines, nothing}
 
 -- what a plan of this form tells of a change of group
 abbrev told_of_group : PlanForm → Bytes → Bytes → Bytes

@@ -1,16 +1,14 @@
 -- userdel is lawful (`userdel-lawful`). Way: lists lose names, and all else goes, of the user that the command names.
-use Rattle.std.proofs.Common.{ℕ, Bool, false, ◌||◌, List, [], ◌∷◌, refl, ap, ◌∙◌}
-use Rattle.std.proofs.lemmas.Bool.{or_parts}
+use Rattle.std.proofs.Common.{ℕ, Bool, false, List, [], ◌∷◌, refl, ap, ◌∙◌}
 use Rattle.std.specs.Prelude.{Option, Some, None}
 use Rattle.std.specs.List.{AllByRecursion}
 use Rattle.acct_text.specs.declared.files.Files.{Files}
 use Rattle.account_model.specs.declared.records.SubidRecord.{SubidRecord}
 use Rattle.account_model.specs.declared.tool.Tool.TheVariants.{Userdel}
-use Rattle.account_model.specs.Text.{is_listed}
 use Rattle.account_model.specs.Format.{is_named}
 use Rattle.account_model.specs.Members.{without_name}
 use Rattle.account_model.specs.SubidOwner.{is_owned}
-use Rattle.account_model.specs.NamedLines.{Named, lists_any, named_by, names_subid}
+use Rattle.account_model.specs.NamedLines.{Named, named_by, names_subid}
 use Rattle.account_model.specs.Records.{passwd_format, shadow_format, group_format, gshadow_format, subid_format}
 use Rattle.account_model.specs.RecordEdits.{IsWrittenEdit}
 use Rattle.account_model.specs.Edits.{drop_where}

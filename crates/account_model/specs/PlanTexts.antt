@@ -1,5 +1,5 @@
 -- What a plan prints: what its command would print, and what that would change.
-use Rattle.std.specs.Prelude.{ℕ, List, ◌++◌, length, flat_map, codes, decimal}
+use Rattle.std.specs.Prelude.{ℕ, ◌++◌, length, flat_map, codes, decimal}
 use Rattle.acct_text.specs.declared.files.Files.{Files}
 use Rattle.acct_text.specs.Bytes.{Bytes}
 use Rattle.acct_text.specs.Tables.{table_name}

@@ -2,11 +2,10 @@
 -- days of each from 1970 on as ours does (`day-is`). Way: both tests of a date are the same. Both
 -- calendars give the next date the next number (`next-day`), and 1970-01-01 is day 0, so they agree
 -- day by day.
-use Rattle.std.proofs.Common.{◌≡◌, zero, suc, ℕ, ◌+◌, ◌-◌, ◌<◌, ◌≤◌, true, false, ℤ, pos, ◌+ℤ◌, ◌≤ℤ◌, refl, sym, ◌∙◌, ap, subst, arith, inl, inr}
+use Rattle.std.proofs.Common.{◌≡◌, zero, suc, ℕ, ◌+◌, ◌-◌, ◌<◌, ◌≤◌, true, ℤ, pos, ◌+ℤ◌, refl, sym, ◌∙◌, ap, arith, inl, inr}
 use Rattle.std.specs.Prelude.{nat_le, nat_lt}
-use Rattle.std.proofs.lemmas.Bool.{cases_Bool, le-leb, leb-true, ltb-true, ltb-false}
-use Rattle.jiff.specs.Words.{IsDate, epoch_day}
-use Rattle.jiff.specs.Types.{Date as JiffDate}
+use Rattle.std.proofs.lemmas.Bool.{cases_Bool, le-leb, ltb-false}
+use Rattle.jiff.specs.Words.{IsDate}
 use Rattle.jiff.proofs.Family.{days_from_civil-day, days_from_civil-next_month, days_from_civil-next_year}
 use Rattle.jiff.proofs.SpanFacts.{signed_arith}
 use Rattle.jiff.proofs.OnLiterals.{jiff_on_literals}

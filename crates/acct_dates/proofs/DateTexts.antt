@@ -1,7 +1,7 @@
 -- Claim: the text that `jiff` writes for the date of a day is the printed day (`added-text`). Way:
 -- dates of one day are the same, and so are the texts of their years, months and days, one by one.
-use Rattle.std.proofs.Common.{◌≡◌, zero, suc, ℕ, ◌+◌, ◌-◌, ◌/◌, ◌%◌, ◌<◌, ◌≤◌, Bool, true, false, List, [], ◌∷◌, ◌++◌, ℤ, pos, neg_ℤ, ◌+ℤ◌, ◌≤ℤ◌, refl, sym, ◌∙◌, ap, subst, arith, inl, inr, append_assoc}
-use Rattle.std.specs.Prelude.{Some, None, Result, Ok, Err, IsOk, IfOk, MatchOption, nat_lt, nat_le, decimal, bytes_eq, codes, if◌then◌else◌}
+use Rattle.std.proofs.Common.{◌≡◌, ℕ, ◌+◌, ◌-◌, ◌/◌, ◌%◌, ◌<◌, ◌≤◌, Bool, true, List, [], ◌∷◌, ◌++◌, ℤ, pos, neg_ℤ, ◌+ℤ◌, ◌≤ℤ◌, refl, sym, ◌∙◌, subst, arith}
+use Rattle.std.specs.Prelude.{Result, Ok, Err, IsOk, IfOk, MatchOption, decimal, bytes_eq, codes}
 use Rattle.std.specs.Fmt.{digits}
 use Rattle.std.proofs.lemmas.Bool.{le-leb}
 use Rattle.std.proofs.lemmas.Slice.Eq.{bytes_eq-Decides}
@@ -12,10 +12,10 @@ use Rattle.jiff.specs.Types.{Date as JiffDate, Span, Day}
 use Rattle.jiff.proofs.Family.{epoch_day_injective}
 use Rattle.jiff.proofs.SpanFacts.{signed_arith, date_add-days, can_add-days}
 use Rattle.acct_text.specs.Limits.{last_day}
-use Rattle.account_model.specs.Dates.{Date, days_in_month, IsCounted, date_of, two_digits, print_date, print_day}
-use Rattle.account_model.proofs.DatesLaws.{AreDateParts, date_parts, date_of_is_date}
+use Rattle.account_model.specs.Dates.{Date, IsCounted, date_of, two_digits, print_date, print_day}
+use Rattle.account_model.proofs.DatesLaws.{date_parts, date_of_is_date}
 use Rattle.account_model.proofs.DateTextLaws.{all_below, passes_below, short_month, year_has_four_digits}
-use Rattle.acct_dates.proofs.CalendarLaws.{civil_day, first-day, day-of-date, date-is}
+use Rattle.acct_dates.proofs.CalendarLaws.{first-day, day-of-date, date-is}
 
 -- ---- The texts of numbers, as `jiff` writes them
 

@@ -2,11 +2,11 @@
 -- as their number (`read-number`, `digits-below`, `unread-digits`). A text that is no number is a
 -- date (`other-text`) or none (`empty-text`, `too-large`). Way: by what is found in the text.
 use Rattle.std.proofs.Common.{◌≡◌, ℕ, ◌^◌, ◌<◌, ◌≤◌, Bool, true, false, List, [], ◌∷◌, length, codes, ℤ, pos, refl, sym, ◌∙◌, ap, subst, arith, inl, inr}
-use Rattle.std.specs.Prelude.{Option, Some, None, Result, Ok, Err, IsErrAnd, nat_lt, nat_le, bytes_eq}
+use Rattle.std.specs.Prelude.{Option, Some, None, Result, Ok, Err, IsErrAnd, nat_le, bytes_eq}
 use Rattle.std.specs.Option.{ok_or, option_map_or}
 use Rattle.std.specs.Str.Parse.{digits_value}
 use Rattle.std.proofs.Math.Nat.{pow-le-pow_right}
-use Rattle.std.proofs.lemmas.Bool.{cases_Bool, cases_lt, lt-ltb, le-ltb, leb-true}
+use Rattle.std.proofs.lemmas.Bool.{cases_Bool, cases_lt, le-ltb, leb-true}
 use Rattle.std.proofs.lemmas.Int.Digits.{digits_value-lt}
 use Rattle.jiff.specs.Words.{IsDate, IsYmd, epoch_day}
 use Rattle.jiff.specs.Types.{Date as JiffDate}
@@ -18,7 +18,7 @@ use Rattle.account_model.specs.Records.{greatest_days}
 use Rattle.acct_text.specs.Numbers.{first_other, IsNumber, is_digits, number_of, number_within, number_fault}
 use Rattle.acct_text.specs.declared.numbers.NumberFault.{NumberFault}
 use Rattle.acct_text.proofs.NumberLaws.{is_digits-numeral, is_digits-true, number-is, number_of-within, number_of-past, number_of-other}
-use Rattle.account_model.specs.Dates.{Date, is_date, IsCounted, day_of, day_of_written, read_day, read_date_pieces}
+use Rattle.account_model.specs.Dates.{Date, IsCounted, day_of_written, read_day, read_date_pieces}
 use Rattle.acct_dates.specs.declared.read.DateFault.{DateFault}
 use Rattle.acct_dates.specs.declared.read.DateFault.TheVariants.{Shape, OutOfRange}
 use Rattle.acct_dates.specs.Days.{answered}

@@ -1,6 +1,6 @@
 -- Claim: `chage -l` and `passwd -S` print what they show, and nothing beside (`listed-output`). Way: by
 -- whether the option is given.
-use Rattle.std.proofs.Common.{◌≡◌, Bool, true, false, ℕ, List, [], ap, refl, subst, sym}
+use Rattle.std.proofs.Common.{◌≡◌, Bool, true, false, ℕ, List, [], ap}
 use Rattle.std.specs.Prelude.{Option, if◌then◌else◌}
 use Rattle.account_model.specs.declared.refusal.Refusal.{Refusal}
 use Rattle.account_model.specs.declared.tool.Tool.{Tool}

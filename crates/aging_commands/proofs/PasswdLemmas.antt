@@ -1,26 +1,13 @@
--- Claim: the record that counts has the hash that counts (`counting-hash`), and its state is that of the hash and the
--- aging that count (`counting-status`). Way: by whether shadow has the user.
+-- Claim: the state of the record that counts is that of the hash and the aging that count
+-- (`counting-status`). Way: by whether shadow has the user.
 use Rattle.std.proofs.Common.{◌≡◌, ℕ, List, [], refl}
 use Rattle.std.specs.Prelude.{Option, Some, None, option_map, unwrap_or}
 use Rattle.acct_text.specs.declared.files.Files.{Files}
 use Rattle.account_model.specs.declared.records.ShadowRecord.{ShadowRecord}
 use Rattle.account_model.specs.Records.{hash_alone}
-use Rattle.account_model.specs.Users.{find_shadow, hash_of, passwd_field}
+use Rattle.account_model.specs.Users.{find_shadow, passwd_field}
 use Rattle.account_model.specs.Passwd.{password_status, status_line}
 use Rattle.aging_commands.specs.AgingFields.{counting_record}
-
--- the hash of a record that may be there
-hash-by :
-    (user field : List ℕ) (found : Option ShadowRecord)
-    → (unwrap_or found (hash_alone user field)).hash
-    ≡ unwrap_or (option_map (λ r. r.hash) found) field
-hash-by user field None = refl
-hash-by user field (Some r) = refl
-
--- the hash that counts
-pub counting-hash :
-    (user : List ℕ) (files : Files) → (counting_record user files).hash ≡ hash_of user files
-counting-hash user files = hash-by user (passwd_field user files) (find_shadow user files)
 
 -- the line of a record that may be there
 line-by :

@@ -1,6 +1,6 @@
 -- Claim: edits that come behind others one after another are those in order (`three-also`,
 -- `order-more`). Way: by the laws of scripts that follow one another.
-use Rattle.std.proofs.Common.{◌≡◌, ◌∙◌, ◌<◌, ℕ, ◌+◌, List, [], ◌∷◌, ◌++◌, length, map, take, get_or, sym, ap, add-one}
+use Rattle.std.proofs.Common.{◌≡◌, ◌∙◌, ◌<◌, ℕ, ◌+◌, List, [], ◌∷◌, length, map, take, get_or, sym, ap, add-one}
 use Rattle.std.proofs.Math.Seq.{take-suc}
 use Rattle.std.proofs.lemmas.List.{map-append}
 use Rattle.account_model.specs.Tables.{Script, followed_by, in_order}

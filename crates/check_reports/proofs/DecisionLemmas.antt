@@ -235,13 +235,6 @@ pair-listed script files main hashes main_file hashes_file new_main new_hashes n
 
 module _ (tool : Tool) (script : Script) (files : Files) (test : Bool) (absent : Refusal)
     (decision : Decision) where
-  -- without a table that is wanted it is refused
-  pub absent-decides :
-      test ≡ true
-      → decision ≡ Refuse absent (refusal_output tool absent)
-      → DecidesBy tool (changes (refuse_if test absent ∷ []) script) files decision
-  absent-decides is_absent is = is ∙ (rw (is_absent) refl)
-
   -- and else the script decides
   pub script-decides :
       test ≡ false

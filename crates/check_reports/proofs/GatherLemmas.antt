@@ -1,7 +1,7 @@
 -- Claim: a record of shadow differs from itself with another hash and another last change where one of these does
 -- (`shadow_differs`). Way: by both tests.
-use Rattle.std.proofs.Common.{◌≡◌, ◌∙◌, ℕ, true, false, not, List, refl, sym, ap, inl, inr}
-use Rattle.std.specs.Prelude.{◌||◌, Option, None, Some, bytes_eq, is_none, is_some}
+use Rattle.std.proofs.Common.{◌≡◌, ℕ, true, not, List, refl, inl, inr}
+use Rattle.std.specs.Prelude.{◌||◌, Option, None, Some, bytes_eq}
 use Rattle.std.proofs.lemmas.Bool.{cases_Bool, eq-eqb}
 use Rattle.account_model.specs.declared.records.ShadowRecord.{ShadowRecord}
 use Rattle.account_model.specs.Records.{days_eq, shadow_format}

@@ -2,7 +2,7 @@
 -- stays (`grown-has`, `grown-known`); line by line they are all edits (`grown-walk`, `written-walk`). Way: by what the
 -- line reads as.
 use Rattle.std.proofs.Common.{◌≡◌, ◌∙◌, ℕ, ◌+◌, ◌-◌, length, Bool, true, false, List, [], ◌∷◌, ◌++◌, append_assoc, length-append, refl, sym, ap, subst, arith}
-use Rattle.std.specs.Prelude.{◌||◌, ◌==◌, Option, None, Some, bytes_eq, slice_get, is_some, option_map, option_to_list, if◌then◌else◌}
+use Rattle.std.specs.Prelude.{◌||◌, ◌==◌, Option, None, Some, bytes_eq, slice_get, is_some, option_to_list, if◌then◌else◌}
 use Rattle.std.specs.List.{AllByRecursion, cons_option}
 use Rattle.std.specs.Option.{option_or}
 use Rattle.std.proofs.Math.Bool.{or-false}

@@ -1,10 +1,10 @@
--- Claim: the lines of ranges are numbered on (`next-line`), and are those of the records that they
--- were taken from (`lines-of-ranges`), of the file that is listed (`listed-records`).
-use Rattle.std.proofs.Common.{◌≡◌, ◌∙◌, ℕ, ◌+◌, ◌<◌, ◌==◌, true, false, List, [], ◌∷◌, ◌++◌, length, map, drop, get_or, suc, inl, inr, refl, sym, ap, arith, add-one, append_assoc}
+-- Claim: the lines of ranges are those of the records that they were taken from
+-- (`lines-of-ranges`), of the file that is listed (`listed-records`).
+use Rattle.std.proofs.Common.{◌≡◌, ◌∙◌, ℕ, ◌+◌, ◌==◌, true, false, List, [], ◌∷◌, ◌++◌, length, map, drop, suc, inl, inr, refl, sym, ap, arith}
 use Rattle.std.specs.Prelude.{codes, filter, Option, None}
 use Rattle.std.proofs.lemmas.Bool.{cases_Bool, eq-eqb, ne_eqb}
 use Rattle.acct_text.specs.Bytes.{is_empty}
-use Rattle.std.proofs.lemmas.List.{drop_more, length-map}
+use Rattle.std.proofs.lemmas.List.{length-map}
 use Rattle.acct_text.specs.declared.files.Files.{Files}
 use Rattle.account_model.specs.declared.records.SubidRecord.{SubidRecord}
 use Rattle.account_model.specs.declared.refusal.Refusal.TheVariants.{NoRanges}
@@ -37,29 +37,6 @@ module _ (user : List ℕ) where
   -- the lines of ranges from a place on
   abbrev pub lines_left : ℕ → List (ℕ × ℕ) → List ℕ
   lines_left place ranges = range_lines_from place user (map (range_for user) (drop place ranges))
-
-  -- the line at a place comes first of those left there
-  pub next-line :
-      (ranges : List (ℕ × ℕ)) (place : ℕ) (range : ℕ × ℕ) (done now total : List ℕ)
-      → place < length ranges
-      → range ≡ get_or ranges place range
-      → done ++ lines_left place ranges ≡ total
-      → now ≡ done ++ range_line place user (range_for user range)
-      → now ++ lines_left (place + 1) ranges ≡ total
-  next-line ranges place range done now total inside is so_far pushed =
-      let line = range_line place user (range_for user range) in
-      let rest = drop (place + 1) ranges in
-      let back = range_lines_from (place + 1) user (map (range_for user) rest) in
-      let left : drop place ranges ≡ range ∷ rest =
-      drop_more ranges place range inside ∙ ap (λ r. r ∷ rest) (sym is) in
-      let first : lines_left place ranges ≡ line ++ back =
-      ap (λ left. range_lines_from place user (map (range_for user) left)) left
-      ∙ ap (λ (n : ℕ). line ++ range_lines_from n user (map (range_for user) rest))
-      (sym (add-one place)) in
-      ap (λ front. front ++ back) pushed
-      ∙ append_assoc done line back
-      ∙ ap (λ left. done ++ left) (sym first)
-      ∙ so_far
 
 -- the records of the file that is listed
 pub listed-records :

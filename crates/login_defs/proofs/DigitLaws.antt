@@ -1,12 +1,11 @@
 -- Claim: a text whose bytes are all digits of the radix has the number that they write
--- (`number-digits`); one that writes too much, or has another byte, has none within the bound
--- (`number-past`, `number-other`).
-use Rattle.std.proofs.Common.{◌≡◌, ℕ, zero, suc, ◌+◌, ◌*◌, ◌<◌, ◌≤◌, Bool, true, false, ◌&&◌, not, List, [], ◌∷◌, length, get_or, take, refl, sym, subst, arith, inl, inr, Some, None}
+-- (`number-digits`); one that writes too much has none within the bound (`number-past`).
+use Rattle.std.proofs.Common.{◌≡◌, ℕ, suc, ◌+◌, ◌*◌, ◌<◌, ◌≤◌, Bool, true, false, ◌&&◌, not, List, [], ◌∷◌, length, get_or, take, refl, sym, subst, arith, inl, inr, Some, None}
 use Rattle.std.specs.Prelude.{if◌then◌else◌}
 use Rattle.std.specs.List.{list_all}
 use Rattle.std.specs.Char.{is_digit, digit_value}
 use Rattle.std.specs.Str.Parse.{digits_value}
-use Rattle.std.proofs.lemmas.Bool.{lt-ltb, le-ltb, le-leb, lt-leb}
+use Rattle.std.proofs.lemmas.Bool.{lt-ltb, le-leb, lt-leb}
 use Rattle.std.proofs.lemmas.Bool.Decides.{eqb_tells}
 use Rattle.std.proofs.lemmas.Int.Digits.{digits_value_more}
 use Rattle.acct_text.specs.Bytes.{is_empty}
@@ -23,21 +22,6 @@ all-digits radix (byte ∷ text) each =
     rw (lt-ltb (digit_value byte) radix (each 0 (omega arith)))
     (all-digits radix text (λ place low. each (suc place) (omega arith)))
 
--- not all bytes are where one isn't
-not-digits :
-    (radix : ℕ) (text : List ℕ) (place : ℕ)
-    → place < length text
-    → radix ≤ digit_value (get_or text place 0)
-    → list_all (λ byte. is_digit byte radix) text ≡ false
-not-digits radix [] place low other = absurd (omega arith)
-not-digits radix (byte ∷ text) zero low other = rw (le-ltb (digit_value byte) radix other) refl
-not-digits radix (byte ∷ text) (suc place) low other =
-    rw (not-digits radix text place (omega arith) other) (and-false (is_digit byte radix))
-  where
-    and-false : (test : Bool) → (test && false) ≡ false
-    and-false true = refl
-    and-false false = refl
-
 -- the number of digits within the bound
 pub number-digits :
     (greatest radix : ℕ) (text : List ℕ)
@@ -47,16 +31,6 @@ pub number-digits :
     → within greatest (radix_number radix text) ≡ Some (digits_value radix text)
 number-digits greatest radix text some each small =
     rw (empty-no text some, all-digits radix text each, le-leb _ _ small) refl
-
--- no number where a byte is no digit
-pub number-other :
-    (greatest radix : ℕ) (text : List ℕ) (place : ℕ)
-    → 0 < length text
-    → place < length text
-    → radix ≤ digit_value (get_or text place 0)
-    → within greatest (radix_number radix text) ≡ None
-number-other greatest radix text place some low other =
-    rw (empty-no text some, not-digits radix text place low other) refl
 
 -- no number within the bound where the digits write more, or there is another byte
 number-tested :

@@ -1,5 +1,5 @@
 -- Claims: the lines of a text are its first line, where that isn't skipped, and those behind it
--- (`lines-cut`, `lines-whole`); and what a line asks for is for lines (`line-for-lines`).
+-- (`lines-cut`); and what a line asks for is for lines (`line-for-lines`).
 use Rattle.std.proofs.Common.{◌≡◌, ℕ, ◌+◌, ◌<◌, List, [], ◌∷◌, true, length, lt_irrefl, Some, Result, Ok, Err, refl, ap, subst, sym, ◌∙◌}
 use Rattle.std.specs.Prelude.{filter_map}
 use Rattle.std.specs.List.{cons_option, enumerate_from}
@@ -36,18 +36,6 @@ pub lines-cut :
 lines-cut number text first rest cut =
     ap (λ (lines : List Line). filter_map line_numbered (enumerate_from number lines))
     (ap lines_of_pieces cut ∙ lines-more first (cut_at newline rest) (cut_at-is newline rest).some)
-
--- a text without a newline is one line
-pub lines-whole :
-    (number : ℕ) (text : List ℕ)
-    → 0 < length text
-    → cut_at newline text ≡ text ∷ []
-    → lines_from number text
-    ≡ cons_option (line_with number (split_line text)) (lines_from (number + 1) [])
-lines-whole number [] some uncut = absurd (lt_irrefl 0 some)
-lines-whole number (byte ∷ text) some uncut =
-    ap (λ (lines : List Line). filter_map line_numbered (enumerate_from number lines))
-    (ap lines_of_pieces uncut)
 
 -- a line by what its words ask for
 asking-for-lines :

@@ -1,6 +1,5 @@
 -- Claim: each step of a reading keeps its outcome. An option that is read before others is kept
--- (`request_by-option`), and so is an operand (`request_by-operand`); a letter or a name that waits
--- for its value keeps the outcome too (`waiting-leads`).
+-- (`request_by-option`), and so is an operand (`request_by-operand`).
 use Rattle.std.proofs.Common.{◌≡◌, ◌≢◌, ◌⊎◌, ℕ, suc, ◌+◌, ◌-◌, ◌==◌, false, List, [], ◌∷◌, ◌++◌, length, Option, Some, None, Result, Ok, Err, refl, ap, sym, ◌∙◌, arith, inl, inr}
 use Rattle.std.specs.Option.{option_or}
 use Rattle.std.specs.Prelude.{if◌then◌else◌, filter_map, filter, OnOk, IfOk, IfErr, IsErrAnd}
@@ -18,7 +17,7 @@ use Rattle.account_model.specs.Text.{last_of, has_byte, equals_sign}
 use Rattle.account_model.specs.Options.{Word, OptionForm, as_flag, as_value}
 use Rattle.account_model.specs.ToolOptions.{is_prefix, options_for, most_operands}
 use Rattle.account_model.specs.Request.{Request}
-use Rattle.account_model.specs.Spelling.{form_of_letter, form_of_name, WordReading, complete, waits_for_value, flag_before, value_behind, letter_reading, letters_reading, name_reading, name_reading_with, name_part, value_part, long_reading, Meaning, is_an_operand, has_options, word_meaning, Arguments, with_options, with_operand, read_word, read_arguments}
+use Rattle.account_model.specs.Spelling.{form_of_letter, form_of_name, WordReading, complete, flag_before, value_behind, letter_reading, letters_reading, name_reading, name_reading_with, name_part, value_part, long_reading, Meaning, is_an_operand, has_options, word_meaning, Arguments, with_options, with_operand, read_word, read_arguments}
 use Rattle.account_model.specs.Words.{AsksAs, without_prefix, prefix_value, prefix_for, request_with, request_of_arguments, request_of_tool, request_as}
 use Rattle.option_words.specs.declared.reading.Reading.{Reading}
 use Rattle.option_words.specs.declared.reading.Expects.{Expects}
@@ -130,15 +129,6 @@ pub complete-leads :
 complete-leads reading place option any words =
     let rest = read_arguments (table_of reading) None (room_of reading) (suc place) words in
     request_by-option reading option rest ∙ rw any refl
-
--- a letter that waits for its value leads on
-pub waiting-leads :
-    (reading : Reading) (place : ℕ) (letter : ℕ)
-    → LeadsTo (options_of_word reading place (waits_for_value letter))
-    (record reading { expects = ValueOf letter }) (suc place)
-waiting-leads reading place letter words =
-    ap (request_by reading) (with_options-nil
-    (read_arguments (table_of reading) (Some letter) (room_of reading) (suc place) words))
 
 -- a value behind a letter, where there is one
 pub value_behind-some :

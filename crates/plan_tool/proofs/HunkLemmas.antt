@@ -5,8 +5,8 @@ use Rattle.std.proofs.Common.{◌≡◌, ℕ, zero, suc, ◌+◌, ◌-◌, ◌<�
 use Rattle.std.specs.Prelude.{count_by, flat_map}
 use Rattle.std.specs.List.{range_with_len}
 use Rattle.std.proofs.lemmas.List.FromFn.{length-range_with_len}
-use Rattle.std.proofs.lemmas.List.{length-map, length-take-le, map-append, take-map, take_more}
-use Rattle.std.proofs.lemmas.List.Sums.{count_by-le-length, sum_by-append}
+use Rattle.std.proofs.lemmas.List.{length-map, map-append, take-map, take_more}
+use Rattle.std.proofs.lemmas.List.Sums.{sum_by-append}
 use Rattle.std.proofs.Math.Seq.{take-add}
 use Rattle.account_model.specs.declared.fate.Fate.{Fate}
 use Rattle.account_model.specs.declared.fate.Fate.TheVariants.{Kept, Gone, New}
@@ -60,18 +60,6 @@ pub parts-joined :
 parts-joined text start old between new end lines = simp append_assoc refl
 
 -- ---- Points
-
--- a point has no more lines in front of it than its place
-pub point-within :
-    (lines : List DiffLine) (point : Point)
-    → IsPointOf lines point
-    → (point.old ≤ point.place) × (point.new ≤ point.place)
-point-within lines point is =
-    let front = take point.place lines in
-    let size = length-take-le point.place lines is.inside in
-    let old = count_by-le-length is_old front in
-    let new = count_by-le-length is_new front in
-    (omega (arith, size, old, is.old), omega (arith, size, new, is.new))
 
 -- how many lines a line is in each file
 old-counted : (line : DiffLine) → count_by is_old (line ∷ []) ≡ lines_in_old line.fate

@@ -8,7 +8,7 @@ use Rattle.std.proofs.lemmas.List.Concat.{flat_map-cons}
 use Rattle.std.proofs.lemmas.List.FromFn.{map-range_with_len_more}
 use Rattle.std.proofs.lemmas.List.Splits.{length-slice_split, slice_split-cons_no, slice_split-cons_yes}
 use Rattle.acct_text.specs.Bytes.{Bytes}
-use Rattle.account_model.specs.PlanDiff.{DiffLine, hunk_text, hunks_text, is_shown}
+use Rattle.account_model.specs.PlanDiff.{DiffLine, hunk_text, is_shown}
 use Rattle.plan_tool.specs.SeenDiff.{hunk_between}
 
 -- ---- Pieces
@@ -66,12 +66,6 @@ module _ (lines : List DiffLine) where
   fresh here count =
       let size = length-slice_split parts_hunks (range_with_len here count) in
       continued-none (pieces_from here count) (omega (arith, size))
-
-  -- all hunks
-  pub from-begin : hunks_from 0 0 ≡ hunks_text lines
-  from-begin =
-      let all : length lines - 0 ≡ length lines = omega arith in
-      rw (all, fresh 0 (length lines)) refl
 
   -- a line that is shown goes to the hunk
   pub shown-on :

@@ -1,8 +1,8 @@
 -- Claim: what a search finds in the lines left is by the range of the next, and by what is left
--- behind it (`meeting-here`, `meeting-behind`, `owned-here`, `owned-behind`, `held-left`); a line of another
--- owner has none of the owner's (`other-owned`).
+-- behind it (`meeting-here`, `meeting-behind`, `held-left`); a line of another owner has none of the
+-- owner's (`other-owned`).
 use Rattle.std.proofs.Common.{◌≡◌, ◌≤◌, ℕ, ◌+◌, Bool, true, false, List, [], ◌∷◌, refl, sym, ◌∙◌, ap, arith}
-use Rattle.std.specs.Prelude.{Option, Some, None, ◌||◌, ◌&&◌, nat_le, not, is_none, map, filter, if◌then◌else◌}
+use Rattle.std.specs.Prelude.{Option, Some, None, ◌||◌, ◌&&◌, nat_le, not, is_none, if◌then◌else◌}
 use Rattle.std.specs.List.{AllByRecursion, cons_option, list_any, position_from}
 use Rattle.std.proofs.lemmas.Bool.{and_parts, le-leb, leb-true, true≢false}
 use Rattle.acct_text.specs.Lines.{Line}
@@ -13,25 +13,8 @@ use Rattle.account_model.specs.Records.{last_id, subid_format}
 use Rattle.account_model.proofs.NamingLaws.{subid-names_first}
 use Rattle.account_model.specs.SubidOwner.{is_owned}
 use Rattle.account_model.specs.UsermodRanges.{has_range, lies_in, line_meets}
-use Rattle.subid_ranges.specs.Owned.{first_and_count, owned_one, owned_ranges}
+use Rattle.subid_ranges.specs.Owned.{owned_one}
 use Rattle.subid_ranges.specs.RangeLines.{holds_at, ids_from, meeting_line, meets_at, owner_of, ranges_of}
-
--- the ranges of an owner with one more in front, by whether it is the owner's
-owned-test :
-    (name : List ℕ) (uid : Option ℕ) (r : SubidRecord) (rest : List SubidRecord) (test : Bool)
-    → is_owned name uid r ≡ test
-    → map first_and_count (filter (is_owned name uid) (r ∷ rest))
-    ≡ cons_option (owned_one name uid (Some r)) (map first_and_count (filter (is_owned name uid) rest))
-owned-test name uid r rest true is = rw is refl
-owned-test name uid r rest false is = rw is refl
-
--- and by whether there is one more
-owned-by :
-    (name : List ℕ) (uid : Option ℕ) (found : Option SubidRecord) (rest : List SubidRecord)
-    → map first_and_count (filter (is_owned name uid) (cons_option found rest))
-    ≡ cons_option (owned_one name uid found) (map first_and_count (filter (is_owned name uid) rest))
-owned-by name uid None rest = refl
-owned-by name uid (Some r) rest = owned-test name uid r rest (is_owned name uid r) refl
 
 -- by what a line of another owner reads as
 other-by :
@@ -76,30 +59,6 @@ module _ (line : Line) (left rest : List Line) (is : left ≡ line ∷ rest) whe
         → position_from (line_meets (ids_from first last)) number left
         ≡ position_from (line_meets (ids_from first last)) (number + 1) rest
     meeting-behind apart = meeting-next false apart
-
-  module _ (name : List ℕ) (uid : Option ℕ) where
-    -- the ranges of an owner, by that of the next line
-    owned-left :
-        owned_ranges name uid left
-        ≡ cons_option (owned_one name uid (subid_format.read line.text)) (owned_ranges name uid rest)
-    owned-left =
-        ap (owned_ranges name uid) is
-        ∙ owned-by name uid (subid_format.read line.text) (ranges_of rest)
-
-    -- the range of the next line is the owner's
-    pub owned-here :
-        (range : ℕ × ℕ)
-        → owned_one name uid (subid_format.read line.text) ≡ Some range
-        → owned_ranges name uid left ≡ range ∷ owned_ranges name uid rest
-    owned-here range found =
-        owned-left ∙ ap (λ found. cons_option found (owned_ranges name uid rest)) found
-
-    -- or there is none of the owner
-    pub owned-behind :
-        owned_one name uid (subid_format.read line.text) ≡ None
-        → owned_ranges name uid left ≡ owned_ranges name uid rest
-    owned-behind found =
-        owned-left ∙ ap (λ found. cons_option found (owned_ranges name uid rest)) found
 
   module _ (name : List ℕ) (uid : Option ℕ) (first last : ℕ) where
     -- whether the owner has the IDs in one line, by the next line

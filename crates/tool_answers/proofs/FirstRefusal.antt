@@ -1,6 +1,6 @@
 -- Claim: of things that are tested one by one, the first that doesn't pass refuses
 -- (`refused-first`), and one that passes leaves it to those behind it (`passed-first`). So it is
--- with the refusals of a tool in their order (`refuses-first`, `goes-on`).
+-- with the refusals of a tool in their order (`refuses-first`).
 use Rattle.std.proofs.Common.{◌≡◌, Bool, List, ◌∷◌, refl, sym, subst, inl, inr}
 use Rattle.std.specs.Prelude.{Option, Some, None, Result, Ok, Err, IsErrAnd, find, option_map}
 use Rattle.std.proofs.lemmas.Bool.{cases_Bool}
@@ -50,10 +50,3 @@ pub refuses-first :
     → IsFaultOf (first_some (refusal ∷ rest)) fault
 refuses-first None rest fault is = absurd (never fault is)
 refuses-first (Some refusal) rest fault is = is
-
--- a check that has none leaves it to those behind it
-pub goes-on :
-    (refusal : Option Refusal) (rest : List (Option Refusal))
-    → refusal ≡ None
-    → first_some (refusal ∷ rest) ≡ first_some rest
-goes-on refusal rest none = rw none refl

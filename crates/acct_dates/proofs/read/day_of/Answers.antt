@@ -1,4 +1,4 @@
-use Rattle.std.proofs.Common.{◌≡◌, ◌∙◌, arith, ap, refl, Ok, FitsSigned, pos, w8, w16, w32, w64}
+use Rattle.std.proofs.Common.{◌≡◌, ◌∙◌, arith, ap, refl, Ok, FitsSigned, w8, w16, w32, w64}
 use Rattle.std.proofs.lemmas.Int.{to_z_pos, to_z-of_z}
 use Rattle.jiff.specs.Words.{epoch_day}
 use Rattle.jiff.proofs.SpanFacts.{signed_arith}

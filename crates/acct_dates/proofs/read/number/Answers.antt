@@ -1,5 +1,4 @@
 use Rattle.std.proofs.Common.{◌≡◌, ◌<◌, ◌^◌, length, subst, arith, refl}
-use Rattle.std.specs.Str.Parse.{digits_value}
 use Rattle.acct_text.proofs.NumberLaws.{is_digits-true}
 use Rattle.acct_dates.proofs.WrittenDays.{read-number, digits-below, unread-digits}
 use Rattle.acct_dates.proofs.read.number.Goals as goal

@@ -2,8 +2,6 @@ use Rattle.std.proofs.Common.{◌∙◌, ◌++◌, refl, sym, ap, append-nil}
 use Rattle.std.proofs.lemmas.Bool.{eq-eqb, ne_eqb}
 use Rattle.std.proofs.lemmas.Result.{on_ok_weaker}
 use Rattle.acct_text.specs.Bytes.{newline}
-use Rattle.acct_tables.specs.SeenLines.{end_for, missing_end}
-use Rattle.acct_tables.proofs.LinesAhead.{last-tells}
 use Rattle.check_reports.proofs.GrownLemmas.{ended-by}
 use Rattle.check_reports.proofs.making.push_missing_end.Goals as goal
 

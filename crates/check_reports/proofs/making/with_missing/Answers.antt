@@ -1,4 +1,4 @@
-use Rattle.std.proofs.Common.{◌∙◌, ◌++◌, [], length, refl, sym, ap, subst, arith}
+use Rattle.std.proofs.Common.{◌∙◌, [], length, refl, sym, ap, subst, arith}
 use Rattle.std.specs.List.{AllByRecursion}
 use Rattle.acct_text.specs.Lines.{file_bytes, lines_of}
 use Rattle.acct_text.proofs.LinesLaws.{lines_of-are}

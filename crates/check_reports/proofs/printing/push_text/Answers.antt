@@ -1,4 +1,4 @@
-use Rattle.std.proofs.Common.{◌∙◌, sym, ap, not}
+use Rattle.std.proofs.Common.{◌∙◌, sym}
 use Rattle.std.proofs.lemmas.Result.{on_ok_weaker}
 use Rattle.acct_tables.specs.SeenLines.{seen_line}
 use Rattle.check_reports.proofs.ChangeLemmas.{other-pushed}
