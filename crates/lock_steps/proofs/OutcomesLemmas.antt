@@ -25,6 +25,7 @@ use Rattle.suite_rules.specs.Deeds.{SuiteDeeds}
 use Rattle.suite_rules.specs.Rules.{Permits}
 use Rattle.suite_rules.specs.Standing.{Standing, standing_step}
 use Rattle.suite_rules.specs.Knowledge.{Knowledge}
+use Rattle.suite_rules.specs.Outcomes.{LeadsTo}
 use Rattle.suite_rules.specs.Steps.{StandsIn, TakesStep}
 use Rattle.suite_rules.proofs.StepLemmas.{IsNoAnswer, read-notes, read-tells, stands-done, takes-step}
 use Rattle.lock_steps.specs.declared.LockEnd.{LockEnd}
@@ -35,7 +36,7 @@ use Rattle.lock_steps.specs.declared.claiming.Confirmed.TheVariants.{Keeper, Los
 use Rattle.lock_steps.specs.declared.keeping.Ended.{Ended}
 use Rattle.lock_steps.specs.States.{Lister, Asker, Maker, Overtaken, Kept}
 use Rattle.lock_steps.specs.Stands.{HasNoLock, HasLooked, HasReadHeld, HasJudged, HasMade, WasOvertaken, Keeps, KnowsAnything, HasStagedFree, HasFreed, StandsTold, StandsConfirmed}
-use Rattle.lock_steps.specs.Outcomes.{Looks, Reads, Asks, Claims, Confirms, LeadsTo, cleaned_once, freeing_of, the_end}
+use Rattle.lock_steps.specs.Outcomes.{Looks, Reads, Asks, Claims, Confirms, as_it_came, cleaned_once, freeing_of, the_end}
 use Rattle.lock_steps.proofs.StandsLemmas.{looked, read-free, read-held, told-dead, made, kept, overtaken, cleaned, staged-free, freed}
 
 -- a step that tells a failure only where its call did counts it as the call does
@@ -190,7 +191,7 @@ module _ (before now : Moment) (narrows : Narrows before.admits now.admits) (tok
       (answer : Result (Unit {0}) FolderFault) (result : Result Kept FolderFault)
       → 0 < length keeper.lower
       → number ≡ get_or keeper.lower 0 0
-      → LeadsTo (cleaned_once keeper) answer result
+      → LeadsTo (cleaned_once keeper) as_it_came answer result
       → StandsIn before token (Keeps keeper Knows)
       → Tells before now token (removes (Lock number)) answer
       → IfOk result (λ next. StandsIn now token (Keeps next Knows))
@@ -209,7 +210,7 @@ module _ (before now : Moment) (narrows : Narrows before.admits now.admits) (tok
       (keeper : Kept) (Knows : Knowledge → Type 0)
       (answer : Result (Unit {0}) FolderFault) (result : Result Maker FolderFault)
       → length keeper.lower ≡ 0
-      → LeadsTo (freeing_of keeper) answer result
+      → LeadsTo (freeing_of keeper) as_it_came answer result
       → StandsIn before token (Keeps keeper Knows)
       → Tells before now token (writes FreeStage free_text) answer
       → IfOk result (λ freeing. StandsIn now token (HasStagedFree freeing))
@@ -226,7 +227,7 @@ module _ (before now : Moment) (narrows : Narrows before.admits now.admits) (tok
   pub move-leads :
       (freeing : Maker)
       (answer : Result (Unit {0}) FolderFault) (result : Result Ended FolderFault)
-      → LeadsTo the_end answer result
+      → LeadsTo the_end as_it_came answer result
       → StandsIn before token (HasStagedFree freeing)
       → Tells before now token (renames FreeStage (Lock freeing.number)) answer
       → IfOk result (λ _. StandsIn now token (HasFreed freeing.number))

@@ -100,12 +100,9 @@ Withdraws loser (Ok unit) (Refused (Outrun number other)) =
 Withdraws loser (Err fault) (Folder came) = came ≡ fault
 Withdraws _ _ _ = ⊥
 
--- a call that can't be refused: done it leads to this state, and a fault is given as it came
-abbrev pub LeadsTo : {A State : Type 0} →
-    State → Result A FolderFault → Result State FolderFault → Type 0
-LeadsTo next (Ok answer) (Ok state) = state ≡ next
-LeadsTo next (Err fault) (Err came) = came ≡ fault
-LeadsTo _ _ _ = ⊥
+-- a fault of the folder where a keeper frees its lock: given as it came
+abbrev pub as_it_came : FolderFault → FolderFault
+as_it_came fault = fault
 
 -- the keeper once the first of the lower locks is removed
 abbrev pub cleaned_once : Kept → Kept

@@ -6,10 +6,11 @@ use Rattle.acct_outside.specs.declared.FolderFault.TheVariants.{Failed}
 use Rattle.acct_outside.specs.Tokens.{Token}
 use Rattle.acct_outside.specs.Calls.{Call, Answer}
 use Rattle.acct_outside.specs.Moment.{Moment}
+use Rattle.suite_rules.specs.Outcomes.{LeadsTo}
 use Rattle.suite_rules.specs.Standing.{Standing}
 use Rattle.suite_rules.specs.Steps.{TakesStep, own_command, work}
 use Rattle.lock_steps.specs.declared.LockEnd.{LockEnd}
-use Rattle.lock_steps.specs.Outcomes.{LeadsTo, folder_failed}
+use Rattle.lock_steps.specs.Outcomes.{as_it_came, folder_failed}
 
 -- The session makes this call, whose answer shows so in the result. It keeps what it was asked and how
 -- far its commit is.
@@ -24,4 +25,5 @@ SeeksLock before now token call Shows Holds result =
 abbrev pub FreesLock : {State : Type 0} → Moment → Moment → Token → (call : Call) → State
     → (State → Standing → Type 0) → Result State FolderFault → Type 0
 FreesLock before now token call next Holds result =
-    TakesStep before now token call (λ answer. LeadsTo next answer result) Holds work Failed result
+    TakesStep before now token call (λ answer. LeadsTo next as_it_came answer result) Holds work
+    Failed result

@@ -10,10 +10,11 @@ ghost use Rattle.acct_outside.specs.Tokens.{free_text};
 ghost use Rattle.acct_outside.specs.Calls.{writes, renames, removes};
 ghost use Rattle.acct_outside.specs.Contract.{IsLockNumber};
 ghost use Rattle.suite_rules.specs.Knowledge.{Knowledge};
+ghost use Rattle.suite_rules.specs.Outcomes.{LeadsTo};
 ghost use Rattle.suite_rules.specs.Steps.{StandsIn};
 ghost use Rattle.lock_steps.specs.Stands.{Keeps, KnowsAnything, KnowsNone, HasStagedFree, HasFreed};
 ghost use Rattle.lock_steps.specs.NextCall.{IsNextCall, unlocking_call};
-ghost use Rattle.lock_steps.specs.Outcomes.{LeadsTo, cleaned_once, freeing_of, the_end};
+ghost use Rattle.lock_steps.specs.Outcomes.{as_it_came, cleaned_once, freeing_of, the_end};
 ghost use Rattle.lock_steps.specs.Steps.{FreesLock};
 
 use crate::holder::Holder;
@@ -194,7 +195,7 @@ impl<K: Knowing> Keeper<K> {
 
     // What the removal of the first lower lock leads to.
     fn after_removal(mut self, removed: Result<(), FolderFault>) -> Result<Self, FolderFault>
-        ensures shown { LeadsTo (cleaned_once self) removed result }
+        ensures shown { LeadsTo (cleaned_once self) as_it_came removed result }
         ensures failed { IsErrOf result FolderFault.Failed → IsErrOf removed FolderFault.Failed }
     {
         removed?;
@@ -218,7 +219,7 @@ impl<K: Knowing> Keeper<K> {
 
     // What the write of the free text leads to.
     fn after_write(self, written: Result<(), FolderFault>) -> Result<Freeing, FolderFault>
-        ensures shown { LeadsTo (freeing_of self) written result }
+        ensures shown { LeadsTo (freeing_of self) as_it_came written result }
         ensures failed { IsErrOf result FolderFault.Failed → IsErrOf written FolderFault.Failed }
     {
         written?;
@@ -252,7 +253,7 @@ impl Freeing {
 
     // What the move of the free text leads to.
     fn after_move(self, moved: Result<(), FolderFault>) -> Result<Ended, FolderFault>
-        ensures shown { LeadsTo the_end moved result }
+        ensures shown { LeadsTo the_end as_it_came moved result }
         ensures failed { IsErrOf result FolderFault.Failed → IsErrOf moved FolderFault.Failed }
     {
         moved?;

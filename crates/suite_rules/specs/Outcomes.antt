@@ -29,11 +29,11 @@ at_commit Memory = before_commit Memory
 abbrev pub after_commit : FolderFault → StageFault
 after_commit = at_stage Committed
 
--- a call that can't be refused: done it leads to this state, and a fault is given with its stage
-abbrev pub LeadsTo : {A State : Type 0} → State → (FolderFault → StageFault) →
-    Result A FolderFault → Result State StageFault → Type 0
-LeadsTo next staged (Ok answer) (Ok state) = state ≡ next
-LeadsTo next staged (Err fault) (Err came) = came ≡ staged fault
+-- a call that can't be refused: done it leads to this state, and a fault is given as this says
+abbrev pub LeadsTo : {A State Fault : Type 0} → State → (FolderFault → Fault) →
+    Result A FolderFault → Result State Fault → Type 0
+LeadsTo next given_as (Ok answer) (Ok state) = state ≡ next
+LeadsTo next given_as (Err fault) (Err came) = came ≡ given_as fault
 LeadsTo _ _ _ _ = ⊥
 
 -- the call that stages the first piece of the bytes of a listed table

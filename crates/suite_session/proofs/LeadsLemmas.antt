@@ -8,11 +8,11 @@ use Rattle.acct_outside.specs.declared.StageFault.{StageFault}
 use Rattle.suite_rules.specs.Outcomes.{LeadsTo, at_stage}
 
 -- a done one has the next state
-pub leads-on : {A State : Type 0} (next : State) (staged : FolderFault → StageFault)
-    (answer : Result A FolderFault) (state : State) → LeadsTo next staged answer (Ok state) →
+pub leads-on : {A State Fault : Type 0} (next : State) (given_as : FolderFault → Fault)
+    (answer : Result A FolderFault) (state : State) → LeadsTo next given_as answer (Ok state) →
     state ≡ next
-leads-on next staged (Ok answer) state shown = shown
-leads-on next staged (Err fault) state shown = absurd shown
+leads-on next given_as (Ok answer) state shown = shown
+leads-on next given_as (Err fault) state shown = absurd shown
 
 -- a fault has its stage
 pub leads-fault : {A State : Type 0} (next : State) (staged : FolderFault → StageFault)

@@ -33,7 +33,7 @@ use Rattle.lock_steps.specs.declared.judging.Told.{Told}
 use Rattle.lock_steps.specs.declared.judging.Told.TheVariants.{Judged, Ask}
 use Rattle.lock_steps.specs.declared.claiming.Confirmed.{Confirmed}
 use Rattle.lock_steps.specs.declared.claiming.Confirmed.TheVariants.{Keeper, Loser}
-use Rattle.lock_steps.specs.Outcomes.{Looks, Reads, Asks, Claims, Confirms, Withdraws, loser_of, LeadsTo as LocksLeadTo}
+use Rattle.lock_steps.specs.Outcomes.{Looks, Reads, Asks, Claims, Confirms, Withdraws, as_it_came, loser_of}
 use Rattle.commit_steps.specs.States.{next_name}
 use Rattle.account_model.specs.declared.tool.Tool.{Tool}
 use Rattle.suite_answers.specs.declared.cause.Which.TheVariants.{File}
@@ -145,11 +145,11 @@ reads-quiet None given stood met shows = shows
 reads-quiet (Some table) given stood met shows = shows
 
 -- a step that can't be refused was done where it has its next state, and else came to its fault
-pub leads-done : {A State : Type 0} (next : State) (staged : FolderFault → StageFault)
-    (answer : Result A FolderFault) (state : State) → LeadsTo next staged answer (Ok state) →
+pub leads-done : {A State Fault : Type 0} (next : State) (given_as : FolderFault → Fault)
+    (answer : Result A FolderFault) (state : State) → LeadsTo next given_as answer (Ok state) →
     (given : A) × (answer ≡ Ok given)
-leads-done next staged (Ok answer) state shown = (answer, refl)
-leads-done next staged (Err fault) state shown = absurd shown
+leads-done next given_as (Ok answer) state shown = (answer, refl)
+leads-done next given_as (Err fault) state shown = absurd shown
 
 -- the fault in which a step of the commit ends is the one that its call met
 pub leads-ended : {A State : Type 0} (next : State) (stage : CommitStage)
@@ -159,15 +159,9 @@ leads-ended next stage (Err came) fault shown =
     ap Err (sym (ap (λ (one : StageFault). one.fault) shown))
 leads-ended next stage (Ok answer) fault shown = absurd shown
 
--- so it is with one on the locks
-pub locks-done : {A State : Type 0} (next : State) (answer : Result A FolderFault) (state : State) →
-    LocksLeadTo next answer (Ok state) → (given : A) × (answer ≡ Ok given)
-locks-done next (Ok answer) state shown = (answer, refl)
-locks-done next (Err fault) state shown = absurd shown
-
 -- the fault in which a step of the lock ends is the one that its call met
 pub locks-ended : {A State : Type 0} (next : State) (answer : Result A FolderFault)
-    (fault : FolderFault) → LocksLeadTo next answer (Err fault) → answer ≡ Err fault
+    (fault : FolderFault) → LeadsTo next as_it_came answer (Err fault) → answer ≡ Err fault
 locks-ended next (Err came) fault shown = ap Err (sym shown)
 locks-ended next (Ok answer) fault shown = absurd shown
 

@@ -8,11 +8,12 @@ use Rattle.acct_outside.specs.declared.Name.TheVariants.{FreeStage, Lock}
 use Rattle.acct_outside.specs.Tokens.{Token, free_text}
 use Rattle.acct_outside.specs.Calls.{Call, writes, renames, removes}
 use Rattle.suite_rules.specs.OwnLock.{kept_number}
+use Rattle.suite_rules.specs.Outcomes.{LeadsTo}
 use Rattle.suite_rules.specs.Standing.{Standing}
 use Rattle.suite_rules.specs.Steps.{StandsIn, AlwaysStaysLawful, Leaves, MakesCall, work}
 use Rattle.lock_steps.specs.States.{Maker, Kept}
 use Rattle.lock_steps.specs.declared.keeping.Ended.{Ended}
-use Rattle.lock_steps.specs.Outcomes.{LeadsTo, cleaned_once, freeing_of, the_end}
+use Rattle.lock_steps.specs.Outcomes.{as_it_came, cleaned_once, freeing_of, the_end}
 use Rattle.lock_steps.specs.NextCall.{unlocking_call}
 use Rattle.lock_steps.specs.Stands.{Keeps, KnowsAnything, HasStagedFree, HasFreed}
 use Rattle.suite_answers.specs.declared.cause.Cause.{Cause}
@@ -29,17 +30,12 @@ use Rattle.suite_session.specs.Stands.{IsOutside, StandsUnlocking, StandsFreeing
 use Rattle.suite_session.proofs.DueTextLemmas.{free-due}
 use Rattle.suite_session.proofs.TurnLemmas.{goes-on, extended, turns}
 use Rattle.suite_session.proofs.WritingLemmas.{IsTurnCall}
+use Rattle.suite_session.proofs.LeadsLemmas.{leads-on}
 use Rattle.suite_session.proofs.LeavingLemmas.{clean-stays, freed-left}
 use Rattle.suite_session.proofs.LooksLemmas.{few-less}
-use Rattle.suite_session.proofs.MeetingLemmas.{locks-done, quiet-on}
+use Rattle.suite_session.proofs.MeetingLemmas.{leads-done, quiet-on}
 use Rattle.suite_rules.proofs.StepLemmas.{may-answer-now}
 use Rattle.suite_session.proofs.DueLemmas.{gives-stay}
-
--- a step that leads to a next state has it
-pub leads : {A State : Type 0} (next : State) (answer : Result A FolderFault) (state : State) →
-    LeadsTo next answer (Ok state) → state ≡ next
-leads next (Ok answer) state shown = shown
-leads next (Err fault) state shown = absurd shown
 
 -- ---- What is told on the way out
 
@@ -76,13 +72,13 @@ module _ (before now : Moment) (runner : Runner) (answer : FinalAnswer) where
     -- it removes a lower lock
     pub lowers : (number : ℕ) (kept : Kept) → unlocking_call keeper ≡ removes (Lock number) →
         MakesCall before now keeper.token (removes (Lock number))
-        (λ result. LeadsTo (cleaned_once keeper) result (Ok kept)) →
+        (λ result. LeadsTo (cleaned_once keeper) as_it_came result (Ok kept)) →
         StandsIn now keeper.token (Keeps kept KnowsAnything) →
         Leaves work keeper.token before now →
         AlwaysStaysLawful before now → before.faults ≤ now.faults →
         Turns before now runner (Unlocking keeper answer) (Unlocking kept answer)
     lowers number kept called made next left lawful never_falls =
-        let is = leads (cleaned_once keeper) made.answer kept made.shown in
+        let is = leads-on (cleaned_once keeper) as_it_came made.answer kept made.shown in
         let call = removes (Lock number) in
         let stands = goes-on before now runner commit (Keeps keeper KnowsAnything) stood.stands
         keeper.token stood.same call tt _ (λ result stood. refl) made (Keeps kept KnowsAnything)
@@ -93,7 +89,7 @@ module _ (before now : Moment) (runner : Runner) (answer : FinalAnswer) where
         stood.same call tt _ (λ result stood. refl) made lawful never_falls
         (Unlocking keeper answer) (Unlocking kept answer) called
         (quiet-on call (λ given one met shows. shows) made.answer tt _ _
-        (locks-done _ _ _ made.shown).1)
+        (leads-done _ _ _ _ made.shown).1)
         (λ met is_told. (
           is_told,
           out-follows answer.outcome.cause met is_told stood.quiet call tt,
@@ -120,13 +116,14 @@ module _ (before now : Moment) (runner : Runner) (answer : FinalAnswer) where
     -- it stages the free text
     pub stages : (freeing : Maker) → unlocking_call keeper ≡ writes FreeStage free_text →
         MakesCall before now keeper.token
-        (writes FreeStage free_text) (λ result. LeadsTo (freeing_of keeper) result (Ok freeing)) →
+        (writes FreeStage free_text)
+        (λ result. LeadsTo (freeing_of keeper) as_it_came result (Ok freeing)) →
         StandsIn now keeper.token (HasStagedFree freeing) →
         Leaves work keeper.token before now →
         AlwaysStaysLawful before now → before.faults ≤ now.faults →
         Turns before now runner (Unlocking keeper answer) (Freeing freeing answer)
     stages freeing called made next left lawful never_falls =
-        let is = leads (freeing_of keeper) made.answer freeing made.shown in
+        let is = leads-on (freeing_of keeper) as_it_came made.answer freeing made.shown in
         let call = writes FreeStage free_text in
         let due : IsTurnCall (Runs runner commit (Keeps keeper KnowsAnything)) call =
         free-due runner commit keeper in
@@ -139,7 +136,7 @@ module _ (before now : Moment) (runner : Runner) (answer : FinalAnswer) where
         stood.same call due _ (λ result stood. refl) made lawful never_falls
         (Unlocking keeper answer) (Freeing freeing answer) called
         (quiet-on call (λ given one met shows. shows) made.answer tt _ _
-        (locks-done _ _ _ made.shown).1)
+        (leads-done _ _ _ _ made.shown).1)
         (λ met is_told. (
           is_told,
           out-follows answer.outcome.cause met is_told stood.quiet call tt,
@@ -167,7 +164,8 @@ module _ (before now : Moment) (runner : Runner) (answer : FinalAnswer) where
     -- it moves the free text to its lock
     pub frees : (ended : Ended) →
         MakesCall before now freeing.token
-        (renames FreeStage (Lock freeing.number)) (λ result. LeadsTo the_end result (Ok ended)) →
+        (renames FreeStage (Lock freeing.number))
+        (λ result. LeadsTo the_end as_it_came result (Ok ended)) →
         StandsIn now freeing.token (HasFreed freeing.number) →
         Leaves work freeing.token before now →
         AlwaysStaysLawful before now → before.faults ≤ now.faults →
@@ -183,7 +181,7 @@ module _ (before now : Moment) (runner : Runner) (answer : FinalAnswer) where
         stood.same call tt _ (λ result stood. refl) made lawful never_falls
         (Freeing freeing answer) (Answering answer) refl
         (quiet-on call (λ given one met shows. shows) made.answer tt _ _
-        (locks-done _ _ _ made.shown).1)
+        (leads-done _ _ _ _ made.shown).1)
         (λ met is_told. (
           inl is_told,
           out-follows answer.outcome.cause met is_told stood.quiet call tt,

@@ -5,7 +5,8 @@ use Rattle.lock_steps.specs.Outcomes.{cleaned_once}
 use Rattle.lock_steps.specs.Stands.{Keeps, KnowsAnything}
 use Rattle.lock_steps.proofs.NextLemmas.{unlocks-some}
 use Rattle.suite_session.proofs.TurnLemmas.{may-step, faults}
-use Rattle.suite_session.proofs.UnlockingTurns.{leads, lowers, out-follows}
+use Rattle.suite_session.proofs.UnlockingTurns.{lowers, out-follows}
+use Rattle.suite_session.proofs.LeadsLemmas.{leads-on}
 use Rattle.suite_session.proofs.MeetingLemmas.{locks-ended}
 use Rattle.suite_answers.specs.Reasons.{stage_of}
 use Rattle.suite_session.specs.declared.state.State.TheVariants.{Unlocking}
@@ -30,7 +31,7 @@ returns-in-Ok g c = record {
       c.clean_next.ensures.left c.clean_next.ensures.lawful c.clean_next.ensures.faults.never_falls;
   counts =
       cleaned-calls c.args.keeper c.in-Ok.keeper c.args.answer
-      (leads (cleaned_once c.args.keeper) c.in-Ok.ensures.call.answer c.in-Ok.keeper
+      (leads-on (cleaned_once c.args.keeper) _ c.in-Ok.ensures.call.answer c.in-Ok.keeper
       c.in-Ok.ensures.call.shown) (some-left _ _ c.lower.ensures c.if-lower-eq0.false);
 }
 

@@ -2,12 +2,13 @@ use Rattle.std.proofs.Common.{refl, ap, subst, ◌<◌, length, get_or}
 use Rattle.acct_outside.specs.declared.Name.TheVariants.{Lock}
 use Rattle.acct_outside.specs.declared.FolderFault.TheVariants.{Failed}
 use Rattle.acct_outside.specs.Calls.{removes}
+use Rattle.suite_rules.specs.Outcomes.{LeadsTo}
 use Rattle.suite_rules.specs.Steps.{work}
 use Rattle.lock_steps.specs.States.{Kept}
 use Rattle.lock_steps.specs.Stands.{Keeps}
 use Rattle.lock_steps.proofs.NumberLemmas.{first-of}
 use Rattle.lock_steps.proofs.StandsLemmas.{removal-leaves}
-use Rattle.lock_steps.specs.Outcomes.{LeadsTo, cleaned_once}
+use Rattle.lock_steps.specs.Outcomes.{as_it_came, cleaned_once}
 use Rattle.lock_steps.proofs.OutcomesLemmas.{clean-leads, takes-call}
 use Rattle.lock_steps.proofs.PermitsLemmas.{may-remove}
 use Rattle.lock_steps.proofs.keeping.Keeper.clean_next.Goals as goal
@@ -27,8 +28,8 @@ returns g c =
     takes-call keeper.token (removes (Lock lowest)) tt tt (Keeps keeper knows)
     (λ deeds stood held. may-remove deeds stood keeper knows lowest below held) work
     (λ result stood held. removal-leaves keeper knows lowest stood held result)
-    (LeadsTo (cleaned_once keeper)) (λ next. Keeps next knows) Failed c.remove-removed.result _ _
-    c.requires.stands passes c.after_removal.ensures.shown
+    (LeadsTo (cleaned_once keeper) as_it_came) (λ next. Keeps next knows) Failed
+    c.remove-removed.result _ _ c.requires.stands passes c.after_removal.ensures.shown
     (λ before now narrows.
     clean-leads before now narrows keeper.token keeper knows lowest _ _ c.requires.left refl)
     c.after_removal.ensures.failed
