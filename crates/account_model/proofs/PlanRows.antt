@@ -3,7 +3,7 @@ use Rattle.std.specs.Prelude.{◌≡◌, [], ◌∷◌, ◌++◌, codes, option_
 use Rattle.std.specs.Fmt.{digits}
 use Rattle.std.specs.Result.{result_ok}
 use Rattle.acct_text.specs.declared.Tab.TheVariants.{Group}
-use Rattle.account_model.specs.declared.plan_form.PlanForm.TheVariants.{Sizes}
+use Rattle.account_model.specs.declared.plan_form.PlanForm.TheVariants.{Sizes, Diff, Json}
 use Rattle.account_model.specs.declared.refusal.Refusal.TheVariants.{PrimaryGroup}
 use Rattle.account_model.specs.declared.word_fault.WordFault.TheVariants.{MissingValue, NoTool, UnknownTool, WordLimit}
 use Rattle.account_model.specs.Answer.{TableAbsent, deed}
