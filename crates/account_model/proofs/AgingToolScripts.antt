@@ -34,7 +34,7 @@ use Rattle.account_model.specs.Users.{aging_of}
 use Rattle.account_model.specs.Request.{Request, has_option, operand}
 use Rattle.account_model.specs.Action.{changes, reports}
 use Rattle.account_model.specs.Chage.{with_aging, chage_refusals, chage_script, aging_report}
-use Rattle.account_model.specs.Chpasswd.{line_name, line_hash, names_in, has_account, unknown, line_problem, bad_line_from, set_last_change, set_user_hash, set_hash, line_script, set_hashes}
+use Rattle.account_model.specs.Chpasswd.{line_account, line_hash, names_of_lines, has_account, unknown, line_problem, bad_line_from, set_last_change, set_user_hash, set_hash, line_script, set_hashes}
 use Rattle.account_model.proofs.DatesLaws.{date_parts, within_year}
 use Rattle.account_model.proofs.DeedLaws.{first-none}
 use Rattle.account_model.proofs.FieldFacts.{lacks-byte}
@@ -257,8 +257,8 @@ hash-field :
     → line_problem whose files text ≡ None
     → IsField (line_hash text)
 hash-field whose files text lacks none = record {
-  no_colon = no-colon-by (unknown whose (line_name text)) text (has_byte colon text)
-      (has_byte colon (line_hash text)) (has_account whose (line_name text) files)
+  no_colon = no-colon-by (unknown whose (line_account text)) text (has_byte colon text)
+      (has_byte colon (line_hash text)) (has_account whose (line_account text) files)
       (ends_in_return text) refl none;
   no_newline = lacks-drop newline (position_or_len (λ b. b == colon) text + 1) text lacks;
 }
@@ -330,27 +330,27 @@ first-good whose number files line lines None is none = (is, none)
 lines-lawful :
     (whose : HashesOf) (day number : ℕ) (named : Named) (files : Files) (lines : List Line)
     → ((other : List ℕ) → is_listed other (accounts_of whose named) ≡ false
-    → is_listed other (names_in lines) ≡ false)
+    → is_listed other (names_of_lines lines) ≡ false)
     → AllByRecursion (λ line. Lacks newline line.text) lines
     → bad_line_from whose number files lines ≡ None
     → AllByRecursion (IsLawful day false false named) (map (line_script whose files day) lines)
 lines-lawful whose day number named files [] has apart none = tt
 lines-lawful whose day number named files (line ∷ lines) has apart none =
     let good = first-good whose number files line lines (line_problem whose files line.text) refl none
-    in let others = names_in lines
+    in let others = names_of_lines lines
     in (
-      set-hash-lawful whose day named (line_name line.text) (line_hash line.text) files
-          (λ other unnamed. not-this other (line_name line.text) others (has other unnamed))
+      set-hash-lawful whose day named (line_account line.text) (line_hash line.text) files
+          (λ other unnamed. not-this other (line_account line.text) others (has other unnamed))
           (hash-field whose files line.text apart.0 good.0),
       lines-lawful whose day (suc number) named files lines
-          (λ other unnamed. not-others other (line_name line.text) others (has other unnamed))
+          (λ other unnamed. not-others other (line_account line.text) others (has other unnamed))
           apart.1 good.1,
     )
 
 -- the hashes that an input sets have no `:`
 set-hashes-lawful :
     (whose : HashesOf) (day : ℕ) (named : Named) (input : List ℕ) (files : Files)
-    → accounts_of whose named ≡ names_in (lines_of input)
+    → accounts_of whose named ≡ names_of_lines (lines_of input)
     → first_some (set_hashes whose input files day).refusals ≡ None
     → IsLawful day false false named (set_hashes whose input files day).script
 set-hashes-lawful whose day named input files are none = all-hold (lawful-composed named)

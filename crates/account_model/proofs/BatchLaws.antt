@@ -11,7 +11,7 @@ use Rattle.account_model.specs.Settings.{Setting}
 use Rattle.account_model.specs.declared.refusal.Refusal.{Refusal}
 use Rattle.account_model.specs.Action.{Action, Made, made_by, multiple_entries, outcome_of}
 use Rattle.account_model.specs.declared.tool.Tool.{Tool}
-use Rattle.account_model.specs.Batch.{IsDoneOn, LineRefusal, Written, batch, before_others, in_turn, is_done, line_outcome, nothing_on, outcome_ensured, passed_by, with_rest, written_by}
+use Rattle.account_model.specs.Batch.{IsDoneOn, LineRefusal, Written, batch, before_others, in_turn, is_done, line_outcome, nothing_on, outcome_ensured, skipped_line, with_rest, written_by}
 use Rattle.account_model.specs.Laws.{DoneLinesStay, LeavesAll}
 use Rattle.account_model.specs.Change.{action_of}
 
@@ -51,14 +51,14 @@ made-by action files made None None passes single is =
 pub ensured-made :
     (ensuring : Bool) (tool : Tool) (files : Files) (outcome : Result Made Refusal) (made : Made)
     → outcome_ensured ensuring tool files outcome ≡ Ok made
-    → (outcome ≡ Ok made) ⊎ (made ≡ passed_by files)
+    → (outcome ≡ Ok made) ⊎ (made ≡ skipped_line files)
 ensured-made ensuring tool files (Ok one) made is = inl is
 ensured-made ensuring tool files (Err refusal) made is = by (ensuring && is_done tool refusal) is
   where
     by :
         (passes : Bool)
-        → (if passes then Ok (passed_by files) else Err refusal) ≡ Ok made
-        → (Err refusal ≡ Ok made) ⊎ (made ≡ passed_by files)
+        → (if passes then Ok (skipped_line files) else Err refusal) ≡ Ok made
+        → (Err refusal ≡ Ok made) ⊎ (made ≡ skipped_line files)
     by true is = inr (sym (ok-inj _ _ refl refl is))
     by false is = absurd (cc is)
 

@@ -10,7 +10,7 @@ use Rattle.acct_text.specs.Lines.{Line, texts_of}
 use Rattle.account_model.specs.Format.{Format}
 use Rattle.account_model.specs.Edits.{Edit, Keyed, keyed_texts, insert_by_key, sorted_by_key, in_places}
 use Rattle.account_model.specs.RecordEdits.{other_texts, unless_read}
-use Rattle.account_model.specs.TouchedLines.{is_untouched, untouched_texts, IsWithin, ends, skips, keeps}
+use Rattle.account_model.specs.TouchedLines.{is_untouched, untouched_texts, AreAmong, ends, skips, keeps}
 use Rattle.account_model.specs.DeedLines.{times}
 
 -- one text more, where it stands in front
@@ -26,7 +26,7 @@ times-more text other texts = sum_by-cons (λ one. cond (bytes_eq text one) 1 0)
 -- what stands within texts stands no more often
 pub within-times :
     (text : List ℕ) {few many : List (List ℕ)}
-    → IsWithin few many
+    → AreAmong few many
     → times text few ≤ times text many
 within-times text ends = omega arith
 within-times text (skips {many} {text = other} within) =

@@ -8,14 +8,14 @@ use lib.Utf8.{encode}
 use Rattle.acct_text.specs.Bytes.{Bytes}
 use Rattle.account_model.specs.declared.plan_form.PlanForm.{PlanForm}
 use Rattle.account_model.specs.declared.plan_form.PlanForm.TheVariants.{Sizes, Diff, Json}
-use Rattle.account_model.specs.PlanTexts.{told}
+use Rattle.account_model.specs.PlanTexts.{plan_text}
 use Rattle.account_model.specs.PlanJson.{json_string}
 use Rattle.account_model.proofs.Commands.{lines, nothing}
 
 -- what a plan of this form tells of a change of group
 abbrev told_of_group : PlanForm → Bytes → Bytes → Bytes
 told_of_group form old new =
-    told form (record nothing { group = Some old }) (record nothing { group = Some new }) 0
+    plan_text form (record nothing { group = Some old }) (record nothing { group = Some new }) 0
     (codes "done\n") []
 
 -- `plan groupadd -P R -g 1500 staff`, behind what the command prints

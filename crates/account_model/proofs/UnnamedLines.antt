@@ -9,7 +9,7 @@ use Rattle.account_model.specs.Format.{Format}
 use Rattle.account_model.specs.Edits.{Edit, touches}
 use Rattle.account_model.specs.Records.{passwd_format, shadow_format, group_format, gshadow_format, subid_format}
 use Rattle.account_model.specs.Tables.{Script}
-use Rattle.account_model.specs.TouchedLines.{IsWithin, is_untouched, untouched_texts}
+use Rattle.account_model.specs.TouchedLines.{AreAmong, is_untouched, untouched_texts}
 use Rattle.account_model.specs.DeedLines.{LeaveUntouched, LeavesUntouched, edits_of_deed, table_lines}
 use Rattle.account_model.specs.NamedLines.{DeedsLeaveUnnamed, LeaveUnnamed, LeavesUnnamed, Named, TouchNamed, is_unnamed, named_by_deed, names_group, names_gshadow, names_passwd, names_shadow, names_subid, unnamed_texts}
 use Rattle.account_model.proofs.NamedDeeds.{deeds-touch-named}
@@ -30,7 +30,7 @@ module _ {R : Type 0} (format : Format R) (names : R → Bool) (edits : List (Ed
   -- so the texts of such lines are within those of untouched lines
   unnamed-within :
       (lines : List Line)
-      → IsWithin (unnamed_texts format names lines) (untouched_texts format edits lines)
+      → AreAmong (unnamed_texts format names lines) (untouched_texts format edits lines)
   unnamed-within lines = weaker-within (is_unnamed format names) (is_untouched format edits) lines
       (λ line is. line-by (format.read line.text) is)
 

@@ -23,7 +23,7 @@ use Rattle.account_model.specs.Change.{action_of}
 use Rattle.account_model.specs.Batch.{Written, batch, ensures, line_outcome, outcome_ensured}
 use Rattle.account_model.specs.BatchLines.{LineRequest, line_requests}
 use Rattle.account_model.specs.Answer.{deed}
-use Rattle.account_model.specs.DeedLines.{DeedsLeaveUntouched, IsByEdits, LeaveUntouched, LeavesUntouched, Sorts, edits_by, edits_of_deed, edits_of_lines, edits_on, table_lines, then_edits, times}
+use Rattle.account_model.specs.DeedLines.{DeedsLeaveUntouched, IsByEdits, LeaveUntouched, LeavesUntouched, IsSorting, edits_by, edits_of_deed, edits_of_lines, edits_on, table_lines, then_edits, times}
 use Rattle.account_model.proofs.BatchLaws.{ensured-made, line-carried, ok-inj, outcome-made}
 use Rattle.account_model.proofs.DeedLaws.{deed-makes}
 use Rattle.account_model.proofs.EditLines.{edited-lines}
@@ -70,7 +70,7 @@ module _ {R : Type 0} (format : Format R) (tells : TellsSame format) where
   -- sorts leave all texts
   sorts-stay :
       (text : List ℕ) (edits : List (Edit R)) (lines : List Line)
-      → AllByRecursion Sorts edits
+      → AllByRecursion IsSorting edits
       → times text (texts_of (edited_by format edits lines)) ≡ times text (texts_of lines)
   sorts-stay text [] lines sort = refl
   sorts-stay text (Arrange key ∷ edits) lines sort =

@@ -7,26 +7,26 @@ use Rattle.acct_text.specs.Lines.{Line, texts_of}
 use Rattle.account_model.specs.Format.{Format, records_of, is_named, has_named}
 use Rattle.account_model.specs.Edits.{Edit, Become, Add, AddMissing, Put, Arrange, line_becomes, becomes, as_ended, with_line, put_first, edited, edited_by, becoming_touches, touches}
 use Rattle.account_model.specs.RecordEdits.{TellsSame}
-use Rattle.account_model.specs.TouchedLines.{KeepsOrder, is_untouched, untouched_texts, IsWithin, ends, skips, keeps}
+use Rattle.account_model.specs.TouchedLines.{KeepsOrder, is_untouched, untouched_texts, AreAmong, ends, skips, keeps}
 
 -- ---- Texts within others
 
 -- no text stands within any
-within-none : (many : List (List ℕ)) → IsWithin [] many
+within-none : (many : List (List ℕ)) → AreAmong [] many
 within-none [] = ends
 within-none (text ∷ many) = skips (within-none many)
 
 -- texts stand within themselves
-within-itself : (texts : List (List ℕ)) → IsWithin texts texts
+within-itself : (texts : List (List ℕ)) → AreAmong texts texts
 within-itself [] = ends
 within-itself (text ∷ texts) = keeps (within-itself texts)
 
 -- what stands within texts that stand within others, stands within the others
 pub within-within :
     {few some many : List (List ℕ)}
-    → IsWithin few some
-    → IsWithin some many
-    → IsWithin few many
+    → AreAmong few some
+    → AreAmong some many
+    → AreAmong few many
 within-within few_some ends = few_some
 within-within few_some (skips some_many) = skips (within-within few_some some_many)
 within-within (skips few_some) (keeps some_many) = skips (within-within few_some some_many)
@@ -35,17 +35,17 @@ within-within (keeps few_some) (keeps some_many) = keeps (within-within few_some
 -- with others in front
 within-behind :
     (front : List (List ℕ)) {few many : List (List ℕ)}
-    → IsWithin few many
-    → IsWithin few (front ++ many)
+    → AreAmong few many
+    → AreAmong few (front ++ many)
 within-behind [] within = within
 within-behind (text ∷ front) within = skips (within-behind front within)
 
 -- two within two
 within-both :
     {few many : List (List ℕ)} (few_behind many_behind : List (List ℕ))
-    → IsWithin few many
-    → IsWithin few_behind many_behind
-    → IsWithin (few ++ few_behind) (many ++ many_behind)
+    → AreAmong few many
+    → AreAmong few_behind many_behind
+    → AreAmong (few ++ few_behind) (many ++ many_behind)
 within-both few_behind many_behind ends behind = behind
 within-both few_behind many_behind (skips within) behind =
     skips (within-both few_behind many_behind within behind)
@@ -58,8 +58,8 @@ within-both few_behind many_behind (keeps within) behind =
 line-by :
     (few many : Bool) (line : Line) (xs ys : List Line)
     → (few ≡ true → many ≡ true)
-    → IsWithin (texts_of xs) (texts_of ys)
-    → IsWithin (texts_of (cond few (line ∷ xs) xs)) (texts_of (cond many (line ∷ ys) ys))
+    → AreAmong (texts_of xs) (texts_of ys)
+    → AreAmong (texts_of (cond few (line ∷ xs) xs)) (texts_of (cond many (line ∷ ys) ys))
 line-by true true line xs ys kept within = keeps within
 line-by true false line xs ys kept within = let wrong = kept refl in cc
 line-by false true line xs ys kept within = skips within
@@ -69,7 +69,7 @@ line-by false false line xs ys kept within = within
 pub weaker-within :
     (strong weak : Line → Bool) (lines : List Line)
     → ((line : Line) → strong line ≡ true → weak line ≡ true)
-    → IsWithin (texts_of (filter strong lines)) (texts_of (filter weak lines))
+    → AreAmong (texts_of (filter strong lines)) (texts_of (filter weak lines))
 weaker-within strong weak [] weaker = ends
 weaker-within strong weak (line ∷ lines) weaker =
     line-by (strong line) (weak line) line (filter strong lines) (filter weak lines) (weaker line)
@@ -78,14 +78,14 @@ weaker-within strong weak (line ∷ lines) weaker =
 -- the lines that pass a test are within all
 pub filter-within :
     (test : Line → Bool) (lines : List Line)
-    → IsWithin (texts_of (filter test lines)) (texts_of lines)
+    → AreAmong (texts_of (filter test lines)) (texts_of lines)
 filter-within test [] = ends
 filter-within test (line ∷ lines) = one (test line) (filter-within test lines)
   where
     one :
         (passes : Bool)
-        → IsWithin (texts_of (filter test lines)) (texts_of lines)
-        → IsWithin (texts_of (cond passes (line ∷ filter test lines) (filter test lines)))
+        → AreAmong (texts_of (filter test lines)) (texts_of lines)
+        → AreAmong (texts_of (cond passes (line ∷ filter test lines) (filter test lines)))
         (line.text ∷ texts_of lines)
     one true within = keeps within
     one false within = skips within
@@ -112,7 +112,7 @@ kept-append test (line ∷ a) b = one (test line) (kept-append test a b)
 line-alone :
     (passes : Bool) (line : Line)
     → passes ≡ true
-    → IsWithin (line.text ∷ []) (texts_of (cond passes (line ∷ []) []))
+    → AreAmong (line.text ∷ []) (texts_of (cond passes (line ∷ []) []))
 line-alone true line is = keeps ends
 line-alone false line is = cc
 
@@ -140,7 +140,7 @@ one-stays :
     → (same ≡ true → r ≡ s)
     → touches format edits s ≡ later
     → (not same || later) ≡ false
-    → IsWithin (line.text ∷ [])
+    → AreAmong (line.text ∷ [])
     (untouched_texts format edits (if same then line ∷ []
     else record line { text = format.print s } ∷ []))
 one-stays format edits line r s false later read is tells touched e = cc
@@ -158,7 +158,7 @@ record-stays :
     → (edits : List (Edit R)) (line : Line) (r : R) (news : List R)
     → format.read line.text ≡ Some r
     → becoming_touches format r news (touches format edits) ≡ false
-    → IsWithin (line.text ∷ []) (untouched_texts format edits (line_becomes format line r news))
+    → AreAmong (line.text ∷ []) (untouched_texts format edits (line_becomes format line r news))
 record-stays format tells edits line r [] read e = cc
 record-stays format tells edits line r (s ∷ []) read e =
     one-stays format edits line r s (format.same r s) (touches format edits s) read refl
@@ -172,7 +172,7 @@ touched-by :
     → (edits : List (Edit R)) (line : Line) (r : R) (news : List R) (touched : Bool)
     → format.read line.text ≡ Some r
     → becoming_touches format r news (touches format edits) ≡ touched
-    → IsWithin (texts_of (cond (not touched) (line ∷ []) []))
+    → AreAmong (texts_of (cond (not touched) (line ∷ []) []))
     (untouched_texts format edits (line_becomes format line r news))
 touched-by format tells edits line r news true read is = within-none _
 touched-by format tells edits line r news false read is =
@@ -184,7 +184,7 @@ becomes-by :
     → TellsSame format
     → (f : R → List R) (edits : List (Edit R)) (line : Line) (o : Option R)
     → format.read line.text ≡ o
-    → IsWithin
+    → AreAmong
     (texts_of (cond (elim o [
       | None ↦ true
       | Some r ↦ not
@@ -218,14 +218,14 @@ become-within :
     {R : Type 0} (format : Format R)
     → TellsSame format
     → (f : R → List R) (edits : List (Edit R)) (lines : List Line)
-    → IsWithin (untouched_texts format (Become f ∷ edits) lines)
+    → AreAmong (untouched_texts format (Become f ∷ edits) lines)
     (untouched_texts format edits (flat_map (becomes format f) lines))
 become-within format tells f edits [] = ends
 become-within format tells f edits (line ∷ lines) =
-    subst (λ few. IsWithin few (untouched_texts format edits
+    subst (λ few. AreAmong few (untouched_texts format edits
     (becomes format f line ++ flat_map (becomes format f) lines)))
     (sym (front-text (is_untouched format (Become f ∷ edits)) line lines))
-    (subst (λ many. IsWithin (texts_of (cond (is_untouched format (Become f ∷ edits)
+    (subst (λ many. AreAmong (texts_of (cond (is_untouched format (Become f ∷ edits)
     line) (line ∷ []) [])
     ++ untouched_texts format (Become f ∷ edits) lines) many)
     (sym (kept-append (is_untouched format edits) (becomes format f line)
@@ -252,18 +252,18 @@ kept-ended format edits (line ∷ lines) =
     one false e = e
 
 -- texts with others behind
-before-within : (texts behind : List (List ℕ)) → IsWithin texts (texts ++ behind)
+before-within : (texts behind : List (List ℕ)) → AreAmong texts (texts ++ behind)
 before-within [] behind = within-none behind
 before-within (text ∷ texts) behind = keeps (before-within texts behind)
 
 -- a new line
 add-within :
     {R : Type 0} (format : Format R) (text : List ℕ) (edits : List (Edit R)) (lines : List Line)
-    → IsWithin (untouched_texts format edits lines)
+    → AreAmong (untouched_texts format edits lines)
     (untouched_texts format edits (with_line text lines))
 add-within format text edits lines =
     let new : List Line = record { text = text; ended = true } ∷ []
-    in subst (λ many. IsWithin (untouched_texts format edits lines) many)
+    in subst (λ many. AreAmong (untouched_texts format edits lines) many)
     (sym (kept-append (is_untouched format edits) (map as_ended lines) new
     ∙ ap (λ front. front ++ untouched_texts format edits new) (kept-ended format edits lines)))
     (before-within (untouched_texts format edits lines) (untouched_texts format edits new))
@@ -293,7 +293,7 @@ put-weaker {R} format s edits line untouched = one (format.read line.text) untou
 -- the lines behind the first of the name
 rest-within :
     {R : Type 0} (format : Format R) (s : R) (edits : List (Edit R)) (lines : List Line)
-    → IsWithin (untouched_texts format (Put s ∷ edits) lines) (untouched_texts format edits lines)
+    → AreAmong (untouched_texts format (Put s ∷ edits) lines) (untouched_texts format edits lines)
 rest-within format s edits lines =
     weaker-within (is_untouched format (Put s ∷ edits)) (is_untouched format edits) lines
     (put-weaker format s edits)
@@ -302,8 +302,8 @@ rest-within format s edits lines =
 touched-front :
     (passes : Bool) (line : Line) (xs : List Line) (many : List (List ℕ))
     → passes ≡ false
-    → IsWithin (texts_of xs) many
-    → IsWithin (texts_of (cond passes (line ∷ xs) xs)) many
+    → AreAmong (texts_of xs) many
+    → AreAmong (texts_of (cond passes (line ∷ xs) xs)) many
 touched-front true line xs many is within = cc
 touched-front false line xs many is within = within
 
@@ -320,9 +320,9 @@ named-touched format s r edits line read named =
 put-front :
     {R : Type 0} (format : Format R) (s : R) (edits : List (Edit R))
     (line : Line) (lines : List Line)
-    → IsWithin (untouched_texts format (Put s ∷ edits) lines)
+    → AreAmong (untouched_texts format (Put s ∷ edits) lines)
     (untouched_texts format edits (put_first format s lines))
-    → IsWithin (untouched_texts format (Put s ∷ edits) (line ∷ lines))
+    → AreAmong (untouched_texts format (Put s ∷ edits) (line ∷ lines))
     (untouched_texts format edits (line ∷ put_first format s lines))
 put-front format s edits line lines later =
     line-by (is_untouched format (Put s ∷ edits) line) (is_untouched format edits line) line
@@ -336,16 +336,16 @@ put-named :
     (lines : List Line) (named : Bool)
     → format.read line.text ≡ Some r
     → is_named format (format.name s) r ≡ named
-    → IsWithin (untouched_texts format (Put s ∷ edits) lines)
+    → AreAmong (untouched_texts format (Put s ∷ edits) lines)
     (untouched_texts format edits (put_first format s lines))
-    → IsWithin (untouched_texts format (Put s ∷ edits) (line ∷ lines)) (untouched_texts format edits
+    → AreAmong (untouched_texts format (Put s ∷ edits) (line ∷ lines)) (untouched_texts format edits
     (if named then line_becomes format line r (s ∷ []) ++ lines else line
     ∷ put_first format s lines))
 put-named format s r edits line lines true read named later =
     touched-front (is_untouched format (Put s ∷ edits) line) line
     (filter (is_untouched format (Put s ∷ edits)) lines) _
     (named-touched format s r edits line read named)
-    (subst (λ many. IsWithin (untouched_texts format (Put s ∷ edits) lines) many)
+    (subst (λ many. AreAmong (untouched_texts format (Put s ∷ edits) lines) many)
     (sym (kept-append (is_untouched format edits) (line_becomes format line r (s ∷ [])) lines))
     (within-behind (untouched_texts format edits (line_becomes format line r (s ∷ [])))
     (rest-within format s edits lines)))
@@ -357,9 +357,9 @@ put-read :
     {R : Type 0} (format : Format R) (s : R) (edits : List (Edit R)) (line : Line)
     (lines : List Line) (o : Option R)
     → format.read line.text ≡ o
-    → IsWithin (untouched_texts format (Put s ∷ edits) lines)
+    → AreAmong (untouched_texts format (Put s ∷ edits) lines)
     (untouched_texts format edits (put_first format s lines))
-    → IsWithin (untouched_texts format (Put s ∷ edits) (line ∷ lines))
+    → AreAmong (untouched_texts format (Put s ∷ edits) (line ∷ lines))
     (untouched_texts format edits (elim o [
       | None ↦ line ∷ put_first format s lines
       | Some r ↦ if is_named format (format.name s) r
@@ -373,7 +373,7 @@ put-read format s edits line lines (Some r) read later =
 -- the first record of a name becomes another
 put-within :
     {R : Type 0} (format : Format R) (s : R) (edits : List (Edit R)) (lines : List Line)
-    → IsWithin (untouched_texts format (Put s ∷ edits) lines)
+    → AreAmong (untouched_texts format (Put s ∷ edits) lines)
     (untouched_texts format edits (put_first format s lines))
 put-within format s edits [] = ends
 put-within format s edits (line ∷ lines) =
@@ -384,9 +384,9 @@ put-within format s edits (line ∷ lines) =
 either-within :
     {R : Type 0} (format : Format R) (edits : List (Edit R)) (few : List (List ℕ))
     (a b : List Line) (test : Bool)
-    → IsWithin few (untouched_texts format edits a)
-    → IsWithin few (untouched_texts format edits b)
-    → IsWithin few (untouched_texts format edits (if test then a else b))
+    → AreAmong few (untouched_texts format edits a)
+    → AreAmong few (untouched_texts format edits b)
+    → AreAmong few (untouched_texts format edits (if test then a else b))
 either-within format edits few a b true in_a in_b = in_a
 either-within format edits few a b false in_a in_b = in_b
 
@@ -398,7 +398,7 @@ pub step-within :
     → TellsSame format
     → (edit : Edit R) (edits : List (Edit R)) (lines : List Line)
     → KeepsOrder edit
-    → IsWithin (untouched_texts format (edit ∷ edits) lines)
+    → AreAmong (untouched_texts format (edit ∷ edits) lines)
     (untouched_texts format edits (edited format lines edit))
 step-within format tells (Become f) edits lines kept = become-within format tells f edits lines
 step-within format tells (Add s) edits lines kept = add-within format (format.print s) edits lines
@@ -420,7 +420,7 @@ pub untouched-stay :
     → TellsSame format
     → (edits : List (Edit R)) (lines : List Line)
     → AllByRecursion KeepsOrder edits
-    → IsWithin (untouched_texts format edits lines) (texts_of (edited_by format edits lines))
+    → AreAmong (untouched_texts format edits lines) (texts_of (edited_by format edits lines))
 untouched-stay format tells [] lines kept = filter-within (is_untouched format []) lines
 untouched-stay format tells (edit ∷ edits) lines kept =
     within-within (step-within format tells edit edits lines kept.0)

@@ -31,7 +31,7 @@ use Rattle.account_model.specs.NewAccount.{kind_of, settings_for, free_uid, free
 use Rattle.account_model.specs.FreeRange.{IsFreeRange}
 use Rattle.account_model.specs.Ids.{is_used, used_gids}
 use Rattle.account_model.specs.SubidOwner.{is_owned}
-use Rattle.account_model.specs.NewRanges.{Subordinate, subordinate_uids, subordinate_gids, may_have_ranges, is_allotted, free_start, new_range, allotment, allotted}
+use Rattle.account_model.specs.NewRanges.{Subordinate, subordinate_uids, subordinate_gids, may_have_ranges, is_allotted, free_start, asked_range, allotment, allotted}
 use Rattle.account_model.specs.Useradd.{makes_group, new_uid, gid_beside, own_gid, default_gid, primary_gid, useradd_checks, useradd_conflicts, new_home, new_user, new_shadow, plan_of, add_own_group, join_groups, add_user, useradd_script, useradd_under}
 use Rattle.account_model.proofs.DeedLaws.{first-none}
 use Rattle.account_model.proofs.HeldLaws.{passwd-holds, shadow-holds, subid-holds}
@@ -245,7 +245,7 @@ range-held :
     → ids.maximum ≤ greatest_id
     → 0 < ids.count
     → free_start ids ≡ Some start
-    → IsSubid (new_range request start ids.count)
+    → IsSubid (asked_range request start ids.count)
 range-held request ids start passes small some found =
     let free = subst (λ choice. IsFreeRange ids.minimum ids.maximum ids.count
     ids.records choice) found
@@ -267,7 +267,7 @@ start-written :
     (allotted request (elim start [ None ↦ Full | Some first ↦ Range first ids.count ]))
 start-written request ids None passes small some found = tt
 start-written request ids (Some start) passes small some found = (
-  subid-holds.written (new_range request start ids.count)
+  subid-holds.written (asked_range request start ids.count)
       (range-held request ids start passes small some found),
   tt,
 )

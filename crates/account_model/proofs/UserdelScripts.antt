@@ -17,7 +17,7 @@ use Rattle.account_model.specs.Tables.{no_edits}
 use Rattle.account_model.specs.WrittenScript.{IsWrittenScript}
 use Rattle.account_model.specs.Request.{Request, operand}
 use Rattle.account_model.specs.Groupdel.{remove_group}
-use Rattle.account_model.specs.Userdel.{Kept, group_without, gshadow_without, remove_user, own_group, own_uid, reason_to_keep, own_group_script}
+use Rattle.account_model.specs.Userdel.{KeptGroup, group_without, gshadow_without, remove_user, own_group, own_uid, reason_to_keep, own_group_script}
 use Rattle.account_model.proofs.HeldLaws.{passwd-holds, shadow-holds, group-holds, gshadow-holds, subid-holds, each-written, drop_where-written}
 use Rattle.account_model.proofs.ComposedScripts.{all-hold, some-holds}
 use Rattle.account_model.proofs.LawfulScripts.{IsLawful, lawful, lawful-composed}
@@ -128,7 +128,7 @@ module _ (request : Request) (files : Files) where
 
   -- the own group of a user goes or is kept
   own-group-lawful :
-      {day : ℕ} (kept : Option Kept)
+      {day : ℕ} (kept : Option KeptGroup)
       → IsLawful day false false userdel_names
       (elim kept [ None ↦ remove_group (operand request) | Some reason ↦ no_edits ])
   own-group-lawful None =

@@ -20,7 +20,7 @@ use Rattle.account_model.specs.Batch.{LineRefusal, Written, batch, ensures, writ
 use Rattle.account_model.specs.Messages.{line_refusal_text, message, refusal_text}
 use Rattle.account_model.specs.Statuses.{file_status, refusal_status}
 use Rattle.account_model.specs.Change.{action_of}
-use Rattle.account_model.specs.PlanTexts.{told}
+use Rattle.account_model.specs.PlanTexts.{plan_text}
 use Rattle.acct_text.specs.Limits.{table_limit}
 use Rattle.acct_text.specs.Contents.{same_content}
 
@@ -188,10 +188,11 @@ planned_cause (Changed files) = Same
 planned_cause cause = cause
 
 -- the output of a plan: it tells what would become of the files, where these can be used
-abbrev pub planned_output : PlanForm → Files → Answer → List ℕ
-planned_output form files made = elim made.cause [
+abbrev pub plan_output : PlanForm → Files → Answer → List ℕ
+plan_output form files made = elim made.cause [
   | Unusable problem ↦ made.output
-  | cause ↦ told form files (unwrap_or (new_files cause) files) made.status made.output made.error
+  | cause ↦
+      plan_text form files (unwrap_or (new_files cause) files) made.status made.output made.error
 ]
 
 -- the answer to a plan, by that to its command: the status and the message are the command's
@@ -199,7 +200,7 @@ abbrev pub planned : PlanForm → Files → Answer → Answer
 planned form files made = record {
   cause = planned_cause made.cause;
   status = made.status;
-  output = planned_output form files made;
+  output = plan_output form files made;
   error = made.error;
 }
 

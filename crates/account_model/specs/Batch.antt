@@ -80,14 +80,14 @@ abbrev pub ensures : Request → Bool
 ensures request = has_option (codes "e") request
 
 -- a line that is passed by
-abbrev pub passed_by : Files → Made
-passed_by files = record { files = files; status = 0; output = []; notices = [] }
+abbrev pub skipped_line : Files → Made
+skipped_line files = record { files = files; status = 0; output = []; notices = [] }
 
 -- what becomes of a line by its outcome, where such lines are passed by or aren't
 abbrev pub outcome_ensured : Bool → Tool → Files → Result Made Refusal → Result Made Refusal
 outcome_ensured ensuring tool files (Ok made) = Ok made
 outcome_ensured ensuring tool files (Err refusal) =
-    if ensuring && is_done tool refusal then Ok (passed_by files) else Err refusal
+    if ensuring && is_done tool refusal then Ok (skipped_line files) else Err refusal
 
 -- what becomes of a line on these files
 abbrev pub line_outcome : Bool → Request → ℕ → List Setting → Files → Result Made Refusal

@@ -22,16 +22,16 @@ use Rattle.account_model.specs.Users.{has_group, has_user}
 use Rattle.account_model.specs.Hashes.{demand_shadow, each_user_hash, set_group_hash}
 
 -- the name stands before the first `:`
-abbrev pub line_name : List ℕ → List ℕ
-line_name text = before_first (λ b. b == colon) text
+abbrev pub line_account : List ℕ → List ℕ
+line_account text = before_first (λ b. b == colon) text
 
 -- the hash stands behind it
 abbrev pub line_hash : List ℕ → List ℕ
 line_hash text = after_first (λ b. b == colon) text
 
 -- the names of all lines
-abbrev pub names_in : List Line → List (List ℕ)
-names_in lines = map (λ line. line_name line.text) lines
+abbrev pub names_of_lines : List Line → List (List ℕ)
+names_of_lines lines = map (λ line. line_account line.text) lines
 
 -- whether there is such a user, or such a group
 abbrev pub has_account : HashesOf → List ℕ → Files → Bool
@@ -49,7 +49,8 @@ abbrev pub line_problem : HashesOf → Files → List ℕ → Option LineProblem
 line_problem whose files text =
     if not (has_byte colon text) then Some NoColon else
     (if has_byte colon (line_hash text) then Some HashColon else
-    (if not (has_account whose (line_name text) files) then Some (unknown whose (line_name text)) else
+    (if not (has_account whose (line_account text) files)
+    then Some (unknown whose (line_account text)) else
     (if ends_in_return text then Some LineEnd else None)))
 
 -- the first bad line, by its number; the first of these lines has the number that is given
@@ -82,7 +83,7 @@ set_hash Groups name hash files day = set_group_hash name hash files
 -- what a line of the input does
 abbrev pub line_script : HashesOf → Files → ℕ → Line → Script
 line_script whose files day line =
-    set_hash whose (line_name line.text) (line_hash line.text) files day
+    set_hash whose (line_account line.text) (line_hash line.text) files day
 
 -- what chpasswd and chgpasswd do, by the input, the tables and the day: a bad line refuses the whole input
 abbrev pub set_hashes : HashesOf → List ℕ → Files → ℕ → Action

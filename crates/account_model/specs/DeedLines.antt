@@ -10,7 +10,7 @@ use Rattle.account_model.specs.Edits.{Edit, Arrange}
 use Rattle.account_model.specs.Records.{passwd_format, shadow_format, group_format, gshadow_format, subid_format, greatest_days}
 use Rattle.account_model.specs.Tables.{Script, no_edits, files_after, followed_by}
 use Rattle.account_model.specs.WrittenScript.{IsWrittenScript}
-use Rattle.account_model.specs.TouchedLines.{KeepsOrder, IsWithin, untouched_texts}
+use Rattle.account_model.specs.TouchedLines.{KeepsOrder, AreAmong, untouched_texts}
 use Rattle.account_model.specs.declared.refusal.Refusal.{Refusal}
 use Rattle.account_model.specs.Settings.{Setting, settings_of}
 use Rattle.account_model.specs.declared.tool.Tool.{Tool}
@@ -60,9 +60,9 @@ abbrev pub times : List ℕ → List (List ℕ) → ℕ
 times text texts = count_by (bytes_eq text) texts
 
 -- the edit sorts (pwck(8) and grpck(8), `-s`)
-abbrev pub Sorts : {R : Type 0} → Edit R → Type 0
-Sorts (Arrange key) = ⊤
-Sorts edit = ⊥
+abbrev pub IsSorting : {R : Type 0} → Edit R → Type 0
+IsSorting (Arrange key) = ⊤
+IsSorting edit = ⊥
 
 -- Of the old lines of a table those that the edits don't touch stay byte for byte: each text stands as
 -- often as it did, and where no edit sorts, all in their old order. A sort alone changes nothing else:
@@ -72,8 +72,8 @@ pub record LeavesUntouched {R : Type 0} (format : Format R) (edits : List (Edit 
   pub stay : (text : List ℕ)
       → times text (untouched_texts format edits old) ≤ times text (texts_of new)
   pub in_order : AllByRecursion KeepsOrder edits
-      → IsWithin (untouched_texts format edits old) (texts_of new)
-  pub sorted : AllByRecursion Sorts edits → (text : List ℕ)
+      → AreAmong (untouched_texts format edits old) (texts_of new)
+  pub sorted : AllByRecursion IsSorting edits → (text : List ℕ)
       → times text (texts_of new) ≡ times text (texts_of old)
 
 -- the lines of a table; an absent one has none

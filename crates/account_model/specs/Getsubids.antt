@@ -28,13 +28,13 @@ listed_records request files =
     if has_option (codes "g") request then subgid_records files else subuid_records files
 
 -- the ranges of the user, in the order of the file
-abbrev pub ranges_of : Request → Files → List SubidRecord
-ranges_of request files =
+abbrev pub ranges_of_user : Request → Files → List SubidRecord
+ranges_of_user request files =
     filter (is_owned (operand request) (uid_of (operand request) files))
     (listed_records request files)
 
 -- what getsubids prints, by the tables; without a range it refuses
 abbrev pub getsubids : Request → Files → Action
 getsubids request files = reports
-    (refuse_if (is_empty (ranges_of request files)) (NoRanges (operand request)) ∷ [])
-    0 (range_lines_from 0 (operand request) (ranges_of request files))
+    (refuse_if (is_empty (ranges_of_user request files)) (NoRanges (operand request)) ∷ [])
+    0 (range_lines_from 0 (operand request) (ranges_of_user request files))

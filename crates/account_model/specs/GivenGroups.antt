@@ -38,15 +38,15 @@ unknown_group request files =
     (λ word. refuse_if (is_unknown_group files word) (NoGroup word))
 
 -- the words of the list of `-G`
-abbrev pub group_words : Request → List (List ℕ)
-group_words request = list_value (text_value (codes "G") request [])
+abbrev pub given_group_words : Request → List (List ℕ)
+given_group_words request = list_value (text_value (codes "G") request [])
 
 -- the groups of `-G`
 abbrev pub given_groups : Request → Files → List GroupRecord
 given_groups request files =
-    filter_map (λ word. find_group word (group_records files)) (group_words request)
+    filter_map (λ word. find_group word (group_records files)) (given_group_words request)
 
 -- the first word of `-G` whose group doesn't exist
 abbrev pub unknown_groups : Request → Files → Option Refusal
 unknown_groups request files =
-    option_map NoGroup (find (is_unknown_group files) (group_words request))
+    option_map NoGroup (find (is_unknown_group files) (given_group_words request))

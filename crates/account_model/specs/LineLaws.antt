@@ -16,7 +16,7 @@ use Rattle.acct_text.specs.Lines.{Line, lines_of, file_bytes, texts_of}
 use Rattle.account_model.specs.Records.{passwd_format, shadow_format, group_format, gshadow_format, subid_format}
 use Rattle.account_model.specs.Reads.{ReadsPasswd, ReadsShadow, ReadsGroup, ReadsGshadow, ReadsSubid}
 use Rattle.account_model.specs.Written.{IsWritten, IsPasswd, IsShadow, IsGroup, IsGshadow, IsSubid}
-use Rattle.account_model.specs.TouchedLines.{first_met, KeepsOrder, IsWithin, untouched_texts}
+use Rattle.account_model.specs.TouchedLines.{first_met, KeepsOrder, AreAmong, untouched_texts}
 
 -- a text is at most one record of a table, and the format's reader computes it
 pub record RecordsAreFound : Type 0 where
@@ -97,7 +97,7 @@ pub record TouchedLinesAreMet : Type 0 where
 abbrev pub UntouchedTextsStay : {R : Type 0} → Format R → Type 0
 UntouchedTextsStay {R} format = (edits : List (Edit R)) (lines : List Line)
     → AllByRecursion KeepsOrder edits
-    → IsWithin (untouched_texts format edits lines) (texts_of (edited_by format edits lines))
+    → AreAmong (untouched_texts format edits lines) (texts_of (edited_by format edits lines))
 
 -- in each table
 pub record UntouchedLinesStay : Type 0 where

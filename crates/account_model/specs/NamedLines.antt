@@ -15,7 +15,7 @@ use Rattle.account_model.specs.declared.tool.Tool.TheVariants.{Useradd, Usermod,
 use Rattle.account_model.specs.Text.{is_listed}
 use Rattle.account_model.specs.Format.{Format}
 use Rattle.account_model.specs.Edits.{Edit, touches}
-use Rattle.account_model.specs.TouchedLines.{IsWithin, KeepsOrder}
+use Rattle.account_model.specs.TouchedLines.{AreAmong, KeepsOrder}
 use Rattle.account_model.specs.Records.{passwd_format, shadow_format, group_format, gshadow_format, subid_format, greatest_days}
 use Rattle.account_model.specs.Tables.{Script, files_after}
 use Rattle.account_model.specs.Settings.{Setting, settings_of}
@@ -24,7 +24,7 @@ use Rattle.account_model.specs.Values.{given_gid}
 use Rattle.account_model.specs.GivenGroups.{given_groups}
 use Rattle.account_model.specs.Request.{Request, operand}
 use Rattle.account_model.specs.Words.{is_batch}
-use Rattle.account_model.specs.Chpasswd.{names_in}
+use Rattle.account_model.specs.Chpasswd.{names_of_lines}
 use Rattle.account_model.specs.Groupmems.{asked_group}
 use Rattle.account_model.specs.Usermod.{new_name, uid_after}
 use Rattle.account_model.specs.Userdel.{own_uid}
@@ -117,9 +117,9 @@ named_by Groupmems request input files =
     record names_nothing { groups = asked_group request ∷ [] }
 named_by Chage request input files = record names_nothing { users = operand request ∷ [] }
 named_by Chpasswd request input files =
-    record names_nothing { users = names_in (lines_of input) }
+    record names_nothing { users = names_of_lines (lines_of input) }
 named_by Chgpasswd request input files =
-    record names_nothing { groups = names_in (lines_of input) }
+    record names_nothing { groups = names_of_lines (lines_of input) }
 named_by Passwd request input files = record names_nothing { users = operand request ∷ [] }
 named_by Pwconv request input files = record names_nothing { all_users = true }
 named_by Pwunconv request input files = record names_nothing { all_users = true }
@@ -212,7 +212,7 @@ pub record LeavesUnnamed {R : Type 0} (format : Format R) (names : R → Bool)
   pub stay : (text : List ℕ)
       → times text (unnamed_texts format names old) ≤ times text (texts_of new)
   pub in_order : AllByRecursion KeepsOrder edits
-      → IsWithin (unnamed_texts format names old) (texts_of new)
+      → AreAmong (unnamed_texts format names old) (texts_of new)
 
 -- so it is in each table
 pub record LeaveUnnamed (named : Named) (edits : Script) (old new : Files) : Type 0 where

@@ -82,11 +82,11 @@ no_gap tab Full = Some (NoGap tab)
 no_gap tab (Range first count) = None
 
 -- `LOGIN:START:COUNT`
-abbrev pub new_range : Request → ℕ → ℕ → SubidRecord
-new_range request start count = record { owner = operand request; first = start; count = count }
+abbrev pub asked_range : Request → ℕ → ℕ → SubidRecord
+asked_range request start count = record { owner = operand request; first = start; count = count }
 
 -- the new line of the table, where there is a range
 abbrev pub allotted : Request → Allotment → List (Edit SubidRecord)
 allotted request Unwanted = []
 allotted request Full = []
-allotted request (Range first count) = Add (new_range request first count) ∷ []
+allotted request (Range first count) = Add (asked_range request first count) ∷ []

@@ -17,7 +17,7 @@ size_line change = codes "would change " ++ table_name change.table
 
 -- what a plan prints of a change from old files to new ones, whose command ends with this status,
 -- output and message: sizes and diff stand behind the output, and an object holds all
-abbrev pub told : PlanForm → Files → Files → ℕ → Bytes → Bytes → Bytes
-told Sizes old new status output error = output ++ flat_map size_line (changes old new)
-told Diff old new status output error = output ++ flat_map diff_text (changes old new)
-told Json old new status output error = json_told old new status output error
+abbrev pub plan_text : PlanForm → Files → Files → ℕ → Bytes → Bytes → Bytes
+plan_text Sizes old new status output error = output ++ flat_map size_line (changes old new)
+plan_text Diff old new status output error = output ++ flat_map diff_text (changes old new)
+plan_text Json old new status output error = json_told old new status output error

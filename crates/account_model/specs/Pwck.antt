@@ -52,16 +52,16 @@ abbrev pub shadow_report : Files → ℕ → List Located
 shadow_report files today = table_problems shadow_format (shadow_problems files today) files.shadow
 
 -- what the output has of problems: `-q` leaves the notices out
-abbrev pub shown : Request → List Located → List Located
-shown request problems =
+abbrev pub shown_problems : Request → List Located → List Located
+shown_problems request problems =
     if has_option (codes "q") request then without_notices problems else problems
 
 -- what `-r` reports, first of passwd and then of shadow
 abbrev pub pwck_report : Request → Files → ℕ → Action
 pwck_report request files today =
     reports [] (report_status (passwd_report files ++ shadow_report files today))
-    (problem_lines Passwd (shown request (passwd_report files))
-    ++ problem_lines Shadow (shown request (shadow_report files today)))
+    (problem_lines Passwd (shown_problems request (passwd_report files))
+    ++ problem_lines Shadow (shown_problems request (shadow_report files today)))
 
 -- passwd sorted by UID
 abbrev pub sorted_users : Files → List PasswdRecord

@@ -20,18 +20,18 @@ form_of (Value letter name) =
 form_of (ShortFlag letter) = record { letter = letter; long_name = None; takes_value = false }
 
 -- the test of a rule
-abbrev pub test_of : TestRow → Test
-test_of (NotBoth first second) = not_both first second
-test_of (OnlyWith first second) = only_with first second
-test_of SomeOption = some_option
-test_of (SomeOf letters) = some_of letters.now
-test_of (OneOf letters) = one_of letters.now
-test_of (ExactlyOne letters) = exactly_one letters.now
-test_of (Alone letters) = alone letters.now
+abbrev pub row_test : TestRow → Test
+row_test (NotBoth first second) = not_both first second
+row_test (OnlyWith first second) = only_with first second
+row_test SomeOption = some_option
+row_test (SomeOf letters) = some_of letters.now
+row_test (OneOf letters) = one_of letters.now
+row_test (ExactlyOne letters) = exactly_one letters.now
+row_test (Alone letters) = alone letters.now
 
 -- a rule
 abbrev pub rule_of : RuleRow → Rule
-rule_of rule = record { text = rule.text.now; is_kept = test_of rule.test }
+rule_of rule = record { text = rule.text.now; is_kept = row_test rule.test }
 
 -- when a tool reports
 abbrev pub reporting_of : ReportingRow → Reporting

@@ -90,8 +90,8 @@ allows None text = true
 allows (Some key) text = is_some (allowed_value key text)
 
 -- whether a value is allowed for the key that a word names
-abbrev pub is_allowed : List ℕ → List ℕ → Bool
-is_allowed word text = allows (find_key word) text
+abbrev pub is_allowed_value : List ℕ → List ℕ → Bool
+is_allowed_value word text = allows (find_key word) text
 
 -- ---- Lines
 
@@ -121,7 +121,7 @@ settings_of bytes = filter_map line_setting (lines_of bytes)
 -- whether a setting has a numeric key with a value that isn't allowed
 abbrev pub is_bad_setting : Option Setting → Bool
 is_bad_setting None = false
-is_bad_setting (Some setting) = not (is_allowed setting.key setting.value)
+is_bad_setting (Some setting) = not (is_allowed_value setting.key setting.value)
 
 -- whether a line has such a setting
 abbrev pub is_bad_line : Line → Bool
@@ -151,7 +151,7 @@ abbrev pub is_setting_word : List ℕ → Bool
 is_setting_word word = has_byte equals_sign word
     && (is_some (find_key (word_setting word).key)
     || bytes_eq (word_setting word).key user_groups_key)
-    && is_allowed (word_setting word).key (word_setting word).value
+    && is_allowed_value (word_setting word).key (word_setting word).value
 
 -- the first word that isn't such a setting
 abbrev pub bad_word : List (List ℕ) → Option (List ℕ)

@@ -46,9 +46,9 @@ untouched_texts format edits lines =
     map (λ line. line.text) (filter (is_untouched format edits) lines)
 
 -- the first texts stand among the others, in their order
-pub data IsWithin : List (List ℕ) → List (List ℕ) → Type 0 where
-  ends : IsWithin [] []
-  skips : {few many : List (List ℕ)} {text : List ℕ} → IsWithin few many
-      → IsWithin few (text ∷ many)
-  keeps : {few many : List (List ℕ)} {text : List ℕ} → IsWithin few many
-      → IsWithin (text ∷ few) (text ∷ many)
+pub data AreAmong : List (List ℕ) → List (List ℕ) → Type 0 where
+  ends : AreAmong [] []
+  skips : {few many : List (List ℕ)} {text : List ℕ} → AreAmong few many
+      → AreAmong few (text ∷ many)
+  keeps : {few many : List (List ℕ)} {text : List ℕ} → AreAmong few many
+      → AreAmong (text ∷ few) (text ∷ many)

@@ -62,19 +62,19 @@ own_group request files settings =
     if user_groups settings then group_named (operand request) files else None
 
 -- why the group is kept
-pub data Kept : Type 0 where
+pub data KeptGroup : Type 0 where
   -- it has members
-  has_members : Kept
+  has_members : KeptGroup
   -- it is the primary group of this user
-  is_primary_of : List ℕ → Kept
+  is_primary_of : List ℕ → KeptGroup
 
 -- it is the primary group of another user, the first of them
-abbrev pub other_primary : List ℕ → Files → GroupRecord → Option Kept
+abbrev pub other_primary : List ℕ → Files → GroupRecord → Option KeptGroup
 other_primary user files group = option_map (λ other. is_primary_of other.name)
     (find (λ other. other.gid == group.gid) (other_users user files))
 
 -- the first reason to keep the group: members that are left; without `-f` another user whose primary group it is
-abbrev pub reason_to_keep : Request → Files → GroupRecord → Option Kept
+abbrev pub reason_to_keep : Request → Files → GroupRecord → Option KeptGroup
 reason_to_keep request files group =
     if not (is_empty (without_name (operand request) group.members)) then Some has_members else
     (if has_option (codes "f") request then None else other_primary (operand request) files group)
@@ -90,7 +90,7 @@ own_group_script request files settings = elim (own_group request files settings
 ]
 
 -- the notice of a group that is kept
-abbrev pub kept_text : List ℕ → Kept → List ℕ
+abbrev pub kept_text : List ℕ → KeptGroup → List ℕ
 kept_text group has_members = codes "group " ++ group ++ codes " kept: it has members"
 kept_text group (is_primary_of user) =
     codes "group " ++ group ++ codes " kept: primary group of " ++ user

@@ -18,5 +18,5 @@ answered (Ok (Some day)) = Ok (pos day)
 answered (Err fault) = Err (fault_of fault)
 
 -- a written date, as one that the calendar has or lacks
-abbrev pub date_of : WrittenDate → Date
-date_of written = record { year = written.year; month = written.month; day = written.day }
+abbrev pub calendar_date : WrittenDate → Date
+calendar_date written = record { year = written.year; month = written.month; day = written.day }

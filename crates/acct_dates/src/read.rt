@@ -5,7 +5,7 @@ ghost use Rattle.std.specs.Str.Parse.{digits_value};
 ghost use Rattle.acct_text.specs.Pieces.{cut_at};
 ghost use Rattle.account_model.specs.Text.{hyphen};
 ghost use Rattle.account_model.specs.Dates.{are_digits, day_of_written, read_date_pieces, read_day as day_of_text};
-ghost use Rattle.acct_dates.specs.Days.{answered, date_of};
+ghost use Rattle.acct_dates.specs.Days.{answered, calendar_date};
 
 use account_model::GREATEST_DAYS;
 use acct_text::{NumberFault, cut_once, read_decimal};
@@ -94,7 +94,7 @@ fn day_of(written: WrittenDate) -> Result<i64, DateFault>
     requires year { written.year < 10000 }
     requires month { written.month < 100 }
     requires day { written.day < 100 }
-    ensures { result ≡ answered (day_of_written (date_of written)) }
+    ensures { result ≡ answered (day_of_written (calendar_date written)) }
 {
     let Ok(date) = Date::new(written.year as i16, written.month as i8, written.day as i8) else {
         return Err(DateFault::NoSuchDay);

@@ -11,7 +11,7 @@ use Rattle.acct_text.specs.Bytes.{is_empty}
 use Rattle.acct_text.specs.Pieces.{fields_of}
 use Rattle.account_model.specs.Text.{first_some}
 use Rattle.account_model.specs.Faults.{NumberField, field_at, field_fault, fields_fault, name_fault}
-use Rattle.acct_lines.specs.Fields.{IsRead}
+use Rattle.acct_lines.specs.Fields.{IsFieldRead}
 use Rattle.acct_lines.proofs.Taken.{AreTakenOf}
 
 -- of two faults the one is kept that comes first
@@ -41,7 +41,7 @@ pub record AreRead (fields : List (List ℕ)) (numbers : List NumberField)
 pub was-read :
     {X : Type 0} {fields : List (List ℕ)} {numbers : List NumberField}
     {before between after : Option LineFault} {place : ℕ} (read : List ℕ → Option X) {value : X}
-    → IsRead (read (field_at place fields)) (BadNumber place) before between value
+    → IsFieldRead (read (field_at place fields)) (BadNumber place) before between value
     → AreRead fields numbers between after
     → AreRead fields ((place, λ text. is_some (read text)) ∷ numbers) before after
 was-read {fields = fields} {numbers = numbers} {before = before} read is behind = record {
@@ -70,7 +70,7 @@ line-fault {numbers = numbers} {after = after} further taken read is =
 pub read-clear :
     {X : Type 0} {found : Option X} {fault : LineFault} {before after : Option LineFault}
     {value : X}
-    → IsRead found fault before after value
+    → IsFieldRead found fault before after value
     → after ≡ None
     → (before ≡ None) × (found ≡ Some value)
 read-clear {before = None} is none = (refl, is.read none)

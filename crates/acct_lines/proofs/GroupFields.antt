@@ -8,7 +8,7 @@ use Rattle.account_model.specs.declared.records.GroupRecord.{GroupRecord}
 use Rattle.acct_text.specs.Bytes.{is_empty}
 use Rattle.account_model.specs.Records.{read_id, read_names, group_of_fields, group_format}
 use Rattle.account_model.specs.Faults.{field_at, name_fault}
-use Rattle.acct_lines.specs.Fields.{IsRead}
+use Rattle.acct_lines.specs.Fields.{IsFieldRead}
 use Rattle.acct_lines.proofs.FirstFault.{named-clear, read-clear}
 use Rattle.acct_lines.proofs.Taken.{AreTakenOf}
 
@@ -30,7 +30,7 @@ fields-at fields counted = absurd (omega (arith, counted))
 pub group-read :
     (line : List ℕ) (fields : List (List ℕ)) (r : GroupRecord) {counted last : Option LineFault}
     → AreTakenOf 4 line fields counted
-    → IsRead (read_id (field_at 3 fields)) (BadNumber 3) counted last r.gid
+    → IsFieldRead (read_id (field_at 3 fields)) (BadNumber 3) counted last r.gid
     → None ≡ option_or last (name_fault (r.name ∷ []))
     → r.name ≡ field_at 1 fields
     → r.password ≡ field_at 2 fields

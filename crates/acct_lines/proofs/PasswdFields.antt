@@ -6,7 +6,7 @@ use Rattle.account_model.specs.declared.fault.LineFault.TheVariants.{BadNumber}
 use Rattle.account_model.specs.declared.records.PasswdRecord.{PasswdRecord}
 use Rattle.account_model.specs.Records.{read_id, passwd_of_fields, passwd_with, passwd_format}
 use Rattle.account_model.specs.Faults.{field_at, name_fault}
-use Rattle.acct_lines.specs.Fields.{IsRead}
+use Rattle.acct_lines.specs.Fields.{IsFieldRead}
 use Rattle.acct_lines.proofs.FirstFault.{named-clear, read-clear}
 use Rattle.acct_lines.proofs.Taken.{AreTakenOf}
 
@@ -25,8 +25,8 @@ pub passwd-read :
     (line : List ℕ) (fields : List (List ℕ)) (r : PasswdRecord)
     {counted third last : Option LineFault}
     → AreTakenOf 7 line fields counted
-    → IsRead (read_id (field_at 3 fields)) (BadNumber 3) counted third r.uid
-    → IsRead (read_id (field_at 4 fields)) (BadNumber 4) third last r.gid
+    → IsFieldRead (read_id (field_at 3 fields)) (BadNumber 3) counted third r.uid
+    → IsFieldRead (read_id (field_at 4 fields)) (BadNumber 4) third last r.gid
     → None ≡ option_or last (name_fault (r.name ∷ []))
     → r.name ≡ field_at 1 fields
     → r.password ≡ field_at 2 fields

@@ -6,7 +6,7 @@ use Rattle.account_model.specs.declared.fault.LineFault.TheVariants.{BadNumber}
 use Rattle.account_model.specs.declared.records.ShadowRecord.{ShadowRecord}
 use Rattle.account_model.specs.Records.{read_days, shadow_of_fields, shadow_with, shadow_format}
 use Rattle.account_model.specs.Faults.{field_at, name_fault}
-use Rattle.acct_lines.specs.Fields.{IsRead}
+use Rattle.acct_lines.specs.Fields.{IsFieldRead}
 use Rattle.acct_lines.proofs.FirstFault.{named-clear, read-clear}
 use Rattle.acct_lines.proofs.Taken.{AreTakenOf}
 
@@ -29,12 +29,12 @@ pub shadow-read :
     (line : List ℕ) (fields : List (List ℕ)) (r : ShadowRecord)
     {counted third fourth fifth sixth seventh last : Option LineFault}
     → AreTakenOf 9 line fields counted
-    → IsRead (read_days (field_at 3 fields)) (BadNumber 3) counted third r.last_change
-    → IsRead (read_days (field_at 4 fields)) (BadNumber 4) third fourth r.minimum
-    → IsRead (read_days (field_at 5 fields)) (BadNumber 5) fourth fifth r.maximum
-    → IsRead (read_days (field_at 6 fields)) (BadNumber 6) fifth sixth r.warning
-    → IsRead (read_days (field_at 7 fields)) (BadNumber 7) sixth seventh r.inactive
-    → IsRead (read_days (field_at 8 fields)) (BadNumber 8) seventh last r.expiration
+    → IsFieldRead (read_days (field_at 3 fields)) (BadNumber 3) counted third r.last_change
+    → IsFieldRead (read_days (field_at 4 fields)) (BadNumber 4) third fourth r.minimum
+    → IsFieldRead (read_days (field_at 5 fields)) (BadNumber 5) fourth fifth r.maximum
+    → IsFieldRead (read_days (field_at 6 fields)) (BadNumber 6) fifth sixth r.warning
+    → IsFieldRead (read_days (field_at 7 fields)) (BadNumber 7) sixth seventh r.inactive
+    → IsFieldRead (read_days (field_at 8 fields)) (BadNumber 8) seventh last r.expiration
     → None ≡ option_or last (name_fault (r.name ∷ []))
     → r.name ≡ field_at 1 fields
     → r.hash ≡ field_at 2 fields

@@ -6,7 +6,7 @@ use Rattle.account_model.specs.declared.fault.LineFault.TheVariants.{BadNumber, 
 use Rattle.acct_text.specs.Pieces.{fields_of}
 use Rattle.account_model.specs.Records.{read_id, read_count, is_bad_range, subid_of_fields, subid_with, subid_format}
 use Rattle.account_model.specs.Faults.{field_at, name_fault, range_fault}
-use Rattle.acct_lines.specs.Fields.{IsRead}
+use Rattle.acct_lines.specs.Fields.{IsFieldRead}
 use Rattle.acct_lines.proofs.FirstFault.{named-clear, read-clear}
 use Rattle.acct_lines.proofs.Taken.{AreTakenOf}
 
@@ -21,8 +21,8 @@ fields-at fields counted = absurd (omega (arith, counted))
 
 module _ (line : List ℕ) (fields : List (List ℕ)) (owner : List ℕ) {first count : ℕ}
     {counted second last : Option LineFault} (taken : AreTakenOf 3 line fields counted)
-    (first_read : IsRead (read_id (field_at 2 fields)) (BadNumber 2) counted second first)
-    (count_read : IsRead (read_count (field_at 3 fields)) (BadNumber 3) second last count)
+    (first_read : IsFieldRead (read_id (field_at 2 fields)) (BadNumber 2) counted second first)
+    (count_read : IsFieldRead (read_count (field_at 3 fields)) (BadNumber 3) second last count)
     (clear : None ≡ option_or last (name_fault (owner ∷ []))) where
   -- the record that was read of a line with three fields
   pub subid-read :

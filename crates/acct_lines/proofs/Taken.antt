@@ -12,7 +12,7 @@ use Rattle.acct_text.specs.Bytes.{colon}
 use Rattle.acct_text.specs.Pieces.{fields_of}
 use Rattle.acct_lines.specs.declared.fields.Fields.{Fields}
 use Rattle.acct_lines.specs.declared.fields.Fields.TheVariants.{Left, Taken, Missing}
-use Rattle.acct_lines.specs.Fields.{AreFields, IsOtherCount, IsTaken, fields_left}
+use Rattle.acct_lines.specs.Fields.{AreFields, IsOtherCount, IsFieldTaken, fields_left}
 use Rattle.acct_lines.proofs.Counted.{some-piece}
 
 -- what is left of the fields
@@ -23,7 +23,7 @@ FieldsLeft = Option (List (List ℕ))
 abbrev AreTaken : FieldsLeft → List (List ℕ) → FieldsLeft → Type 0
 AreTaken before [] left = before ≡ left
 AreTaken before (field ∷ taken) left =
-    (between : FieldsLeft) × (IsTaken before field between × AreTaken between taken left)
+    (between : FieldsLeft) × (IsFieldTaken before field between × AreTaken between taken left)
 
 -- where none is left, they were all that were left before
 none-left :
@@ -76,7 +76,7 @@ infixr 5 ◌before◌
 -- one field, and the others
 pub ◌before◌ :
     {field : List ℕ} {fields : List (List ℕ)} {before between left : FieldsLeft}
-    → IsTaken before field between
+    → IsFieldTaken before field between
     → AreInTurn between fields left
     → AreInTurn before (field ∷ fields) left
 ◌before◌ is others = record { taken = (_, (is, others.taken)) }

@@ -14,7 +14,7 @@ fields_left Taken = Some []
 fields_left Missing = None
 
 -- the field was taken from those that were left before, and these are left then
-pub record IsTaken (before : Option (List (List ℕ))) (field : List ℕ)
+pub record IsFieldTaken (before : Option (List (List ℕ))) (field : List ℕ)
     (left : Option (List (List ℕ))) : Type 0 where
   -- it stood in front of those that are left
   pub first : (rest : List (List ℕ)) → left ≡ Some rest → before ≡ Some (field ∷ rest)
@@ -35,7 +35,7 @@ pub record AreFields (count : ℕ) (line : List ℕ) (fields : List (List ℕ)) 
 
 -- what was read of a field behind others: its value, where no fault came, and else the first fault,
 -- which is this one where the field is the first that couldn't be read
-pub record IsRead {X : Type 0} (found : Option X) (fault : LineFault)
+pub record IsFieldRead {X : Type 0} (found : Option X) (fault : LineFault)
     (before after : Option LineFault) (value : X) : Type 0 where
   pub first : after ≡ option_or before (if is_some found then None else Some fault)
   pub read : after ≡ None → found ≡ Some value

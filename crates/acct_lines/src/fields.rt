@@ -7,7 +7,7 @@ ghost use Rattle.account_model.specs.Records.{read_count, read_days, read_id, re
 ghost use Rattle.account_model.specs.Text.{is_listed, nonempty};
 ghost use Rattle.acct_text.specs.Numbers.{number_within};
 ghost use Rattle.acct_text.specs.Pieces.{fields_of};
-ghost use Rattle.acct_lines.specs.Fields.{IsOtherCount, IsRead, IsTaken, fields_left};
+ghost use Rattle.acct_lines.specs.Fields.{IsOtherCount, IsFieldRead, IsFieldTaken, fields_left};
 ghost use Rattle.account_model.specs.Naming.{first_field as first_of};
 
 use account_model::{GREATEST_DAYS, GREATEST_ID, LineFault};
@@ -29,7 +29,7 @@ pub(crate) enum Fields<'a> {
 impl<'a> Fields<'a> {
     /// Takes the next field; an empty one where none is left.
     pub(crate) fn take(&mut self) -> &'a [u8]
-        ensures { IsTaken (fields_left self.old) result.now (fields_left self.new) }
+        ensures { IsFieldTaken (fields_left self.old) result.now (fields_left self.new) }
     {
         let Fields::Left(rest) = *self else {
             *self = Fields::Missing;
@@ -81,7 +81,7 @@ impl Reading {
 
     /// The UID, the GID or the first subordinate ID that the field at a place is.
     pub(crate) fn id(&mut self, place: usize, field: &[u8]) -> u32
-        ensures { IsRead (read_id field.now) (BadNumber place) self.old.fault self.new.fault
+        ensures { IsFieldRead (read_id field.now) (BadNumber place) self.old.fault self.new.fault
             result }
     {
         self.number(place, field, GREATEST_ID)
@@ -89,7 +89,7 @@ impl Reading {
 
     /// The number of subordinate IDs that the field at a place is, before the range is tested.
     pub(crate) fn count(&mut self, place: usize, field: &[u8]) -> u32
-        ensures { IsRead (read_count field.now) (BadNumber place) self.old.fault self.new.fault
+        ensures { IsFieldRead (read_count field.now) (BadNumber place) self.old.fault self.new.fault
             result }
     {
         self.number(place, field, GREATEST_ID + 1)
@@ -97,7 +97,7 @@ impl Reading {
 
     /// The number of days that the field at a place is: none where it is empty or `-1` (shadow(5)).
     pub(crate) fn days(&mut self, place: usize, field: &[u8]) -> Option<u32>
-        ensures { IsRead (read_days field.now) (BadNumber place) self.old.fault self.new.fault
+        ensures { IsFieldRead (read_days field.now) (BadNumber place) self.old.fault self.new.fault
             result }
     {
         if field.is_empty() || field == b"-1".as_slice() {
@@ -108,7 +108,7 @@ impl Reading {
 
     // The number, of at most `greatest`, that the field at a place is; 0 where it is none.
     fn number(&mut self, place: usize, field: &[u8], greatest: u32) -> u32
-        ensures { IsRead (number_within greatest field.now) (BadNumber place) self.old.fault
+        ensures { IsFieldRead (number_within greatest field.now) (BadNumber place) self.old.fault
             self.new.fault result }
     {
         match read_decimal(field, u64::from(greatest)) {

@@ -16,14 +16,14 @@ use Rattle.account_model.specs.Records.{greatest_id, group_format, passwd_format
 use Rattle.account_model.specs.declared.records.GroupRecord.{GroupRecord}
 use Rattle.account_model.specs.declared.records.PasswdRecord.{PasswdRecord}
 use Rattle.account_model.proofs.ReadsLaws.{group-is, passwd-is}
-use Rattle.acct_tables.specs.Marks.{Holds}
+use Rattle.acct_tables.specs.Marks.{HoldsMark}
 use Rattle.acct_tables.proofs.MarkLemmas.{holds-back, holds-front}
 
 module _ (mark : List ℕ) (separator : ℕ) (piece : List ℕ) where
   -- pieces that are joined have what the first has
   pub joined-first :
-      (rest : List (List ℕ)) → Holds mark piece →
-      Holds mark (join_with_byte separator (piece ∷ rest))
+      (rest : List (List ℕ)) → HoldsMark mark piece →
+      HoldsMark mark (join_with_byte separator (piece ∷ rest))
   joined-first [] holds = holds
   joined-first (next ∷ rest) holds =
       holds-front mark piece (separator ∷ join_with_byte separator (next ∷ rest)) holds
@@ -31,15 +31,15 @@ module _ (mark : List ℕ) (separator : ℕ) (piece : List ℕ) where
   -- and what the others have
   pub joined-rest :
       (rest : List (List ℕ))
-      → Holds mark (join_with_byte separator rest)
-      → Holds mark (join_with_byte separator (piece ∷ rest))
-  joined-rest [] holds = subst (Holds mark) (append-nil piece) (holds-back mark piece [] holds)
+      → HoldsMark mark (join_with_byte separator rest)
+      → HoldsMark mark (join_with_byte separator (piece ∷ rest))
+  joined-rest [] holds = subst (HoldsMark mark) (append-nil piece) (holds-back mark piece [] holds)
   joined-rest (next ∷ rest) holds =
       let later = join_with_byte separator (next ∷ rest) in
       holds-back mark piece (separator ∷ later) (holds-back mark (separator ∷ []) later holds)
 
 -- a text has itself
-pub holds-self : (text : List ℕ) → Holds text text
+pub holds-self : (text : List ℕ) → HoldsMark text text
 holds-self text = record { before = []; behind = []; is = sym (append-nil text) }
 
 -- ---- Numbers
@@ -55,9 +55,9 @@ holds-written :
     → 0 < length digits
     → (get_or digits 0 0 ≡ 48 → length digits ≡ 1)
     → digits_value 10 digits < 2 ^ 64
-    → Holds (decimal (digits_value 10 digits)) digits
+    → HoldsMark (decimal (digits_value 10 digits)) digits
 holds-written digits all some alone small =
-    subst (λ written. Holds written digits)
+    subst (λ written. HoldsMark written digits)
     (sym (decimal-digits_value own digits all some alone small))
     (holds-self digits)
 
@@ -67,7 +67,7 @@ holds-value :
     → AllDigits 10 digits
     → 0 < length digits
     → digits_value 10 digits < 2 ^ 64
-    → Holds (decimal (digits_value 10 digits)) digits
+    → HoldsMark (decimal (digits_value 10 digits)) digits
 holds-value [] all some small = absurd (lt_irrefl 0 some)
 holds-value (digit ∷ []) all some small =
     holds-written (digit ∷ []) all some (λ _. omega arith) small
@@ -76,7 +76,7 @@ holds-value (digit ∷ next ∷ rest) all some small = elim (cases_Bool (nat_eq 
       let is : digit ≡ 48 = eqb-true digit 48 zero_is in
       let same : digits_value 10 (digit ∷ next ∷ rest) ≡ digits_value 10 (next ∷ rest) =
       ap (λ d. digits_value 10 (d ∷ next ∷ rest)) is in
-      subst (λ value. Holds (decimal value) (digit ∷ next ∷ rest)) (sym same)
+      subst (λ value. HoldsMark (decimal value) (digit ∷ next ∷ rest)) (sym same)
       (holds-back (decimal (digits_value 10 (next ∷ rest))) (digit ∷ []) (next ∷ rest)
       (holds-value (next ∷ rest) all.1 (omega arith) (omega (arith, same, small))))
   | inr other ↦ holds-written (digit ∷ next ∷ rest) all some
@@ -88,33 +88,33 @@ holds-number :
     (bound : ℕ) (text : List ℕ) (number : ℕ)
     → bound < 2 ^ 64
     → IsNumber bound text number
-    → Holds (decimal number) text
+    → HoldsMark (decimal number) text
 holds-number bound text number small is =
-    subst (λ value. Holds (decimal value) text) is.value
+    subst (λ value. HoldsMark (decimal value) text) is.value
     (holds-value text is.digits.1 is.digits.0 (omega (arith, is.value, is.bounded, small)))
 
 -- ---- Lines
 
 module _ (line : List ℕ) (user : PasswdRecord) (read : passwd_format.read line ≡ Some user) where
   -- the line of a user has its UID
-  pub holds-uid : Holds (decimal user.uid) line
+  pub holds-uid : HoldsMark (decimal user.uid) line
   holds-uid =
       let reads = passwd-is line user read in
       let mark = decimal user.uid in
       let behind = reads.gid ∷ user.comment ∷ user.home ∷ user.shell ∷ [] in
-      subst (Holds mark) reads.cut.joined
+      subst (HoldsMark mark) reads.cut.joined
       (joined-rest mark colon user.name (user.password ∷ reads.uid ∷ behind)
       (joined-rest mark colon user.password (reads.uid ∷ behind)
       (joined-first mark colon reads.uid behind
       (holds-number greatest_id reads.uid user.uid (omega arith) reads.uid_reads))))
 
   -- and its primary GID
-  pub holds-primary : Holds (decimal user.gid) line
+  pub holds-primary : HoldsMark (decimal user.gid) line
   holds-primary =
       let reads = passwd-is line user read in
       let mark = decimal user.gid in
       let behind = user.comment ∷ user.home ∷ user.shell ∷ [] in
-      subst (Holds mark) reads.cut.joined
+      subst (HoldsMark mark) reads.cut.joined
       (joined-rest mark colon user.name (user.password ∷ reads.uid ∷ reads.gid ∷ behind)
       (joined-rest mark colon user.password (reads.uid ∷ reads.gid ∷ behind)
       (joined-rest mark colon reads.uid (reads.gid ∷ behind)
@@ -125,11 +125,11 @@ module _ (line : List ℕ) (user : PasswdRecord) (read : passwd_format.read line
 pub holds-gid :
     (line : List ℕ) (group : GroupRecord)
     → group_format.read line ≡ Some group
-    → Holds (decimal group.gid) line
+    → HoldsMark (decimal group.gid) line
 holds-gid line group read =
     let reads = group-is line group read in
     let mark = decimal group.gid in
-    subst (Holds mark) reads.cut.joined
+    subst (HoldsMark mark) reads.cut.joined
     (joined-rest mark colon group.name (group.password ∷ reads.gid ∷ reads.members ∷ [])
     (joined-rest mark colon group.password (reads.gid ∷ reads.members ∷ [])
     (joined-first mark colon reads.gid (reads.members ∷ [])

@@ -14,7 +14,7 @@ use Rattle.acct_text.specs.Lines.{Line, file_bytes, line_bytes, lines_of}
 use Rattle.acct_text.specs.Pieces.{Lacks, cut_at}
 use Rattle.acct_text.proofs.Cut.{cut_at-is}
 use Rattle.acct_text.proofs.LinesLaws.{lines_of-are, lines_of-line}
-use Rattle.acct_tables.specs.Marks.{Holds, IsFromMark, IsWithout}
+use Rattle.acct_tables.specs.Marks.{HoldsMark, IsFromMark, IsWithout}
 
 -- lines of these texts, each with an end
 abbrev ended_lines : List (List ℕ) → List Line
@@ -69,7 +69,7 @@ all-behind text place =
 
 module _ (mark : List ℕ) where
   -- a text has what its front has
-  pub holds-front : (text more : List ℕ) → Holds mark text → Holds mark (text ++ more)
+  pub holds-front : (text more : List ℕ) → HoldsMark mark text → HoldsMark mark (text ++ more)
   holds-front text more holds = record {
     before = holds.before;
     behind = holds.behind ++ more;
@@ -79,7 +79,7 @@ module _ (mark : List ℕ) where
   }
 
   -- and what its back has
-  pub holds-back : (more text : List ℕ) → Holds mark text → Holds mark (more ++ text)
+  pub holds-back : (more text : List ℕ) → HoldsMark mark text → HoldsMark mark (more ++ text)
   holds-back more text holds = record {
     before = more ++ holds.before;
     behind = holds.behind;
@@ -125,7 +125,8 @@ module _ (mark : List ℕ) where
         front = ended_lines pieces;
         joined = ap (λ t. lines_of (t ++ newline ∷ rest)) (sym are.joined)
             ∙ front-lines pieces rest are.apart are.some;
-        without = pieces-without pieces (λ holds. without (subst (Holds mark) are.joined holds));
+        without = pieces-without pieces
+            (λ holds. without (subst (HoldsMark mark) are.joined holds));
       }
 
   -- nothing is left of a text without the mark
@@ -134,7 +135,7 @@ module _ (mark : List ℕ) where
     front = lines_of text;
     joined = sym (append-nil (lines_of text));
     without = lines-without (lines_of text)
-        (λ holds. without (subst (Holds mark) (lines_of-are text).joined holds));
+        (λ holds. without (subst (HoldsMark mark) (lines_of-are text).joined holds));
   }
 
   -- the mark is found where it stands

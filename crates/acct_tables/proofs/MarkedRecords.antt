@@ -14,7 +14,7 @@ use Rattle.acct_text.proofs.Cut.{cut_at-is}
 use Rattle.account_model.specs.Faults.{field_at}
 use Rattle.account_model.specs.Format.{Format, count_named, find_named, is_named, records_of}
 use Rattle.account_model.specs.Naming.{NamesFirst, first_field}
-use Rattle.acct_tables.specs.Marks.{Holds, IsBehindAll, IsFromMark, IsWithout}
+use Rattle.acct_tables.specs.Marks.{HoldsMark, IsBehindAll, IsFromMark, IsWithout}
 use Rattle.acct_tables.specs.TableLines.{text_is_named}
 use Rattle.acct_tables.proofs.BehindLines.{behind-weaker, mark-behind}
 use Rattle.acct_tables.proofs.RecordLines.{counted-by, passed-by}
@@ -23,7 +23,7 @@ use Rattle.acct_tables.proofs.RecordLines.{counted-by, passed-by}
 first-joined :
     (pieces : List (List ℕ))
     → 0 < length pieces
-    → Holds (field_at 1 pieces) (join_with_byte colon pieces)
+    → HoldsMark (field_at 1 pieces) (join_with_byte colon pieces)
 first-joined [] some = absurd (lt_irrefl 0 some)
 first-joined (piece ∷ []) some = record { before = []; behind = []; is = sym (append-nil piece) }
 first-joined (piece ∷ next ∷ rest) some = record {
@@ -33,10 +33,10 @@ first-joined (piece ∷ next ∷ rest) some = record {
 }
 
 -- a line begins with its first field
-pub holds-first : (text : List ℕ) → Holds (first_field text) text
+pub holds-first : (text : List ℕ) → HoldsMark (first_field text) text
 holds-first text =
     let are = cut_at-is colon text in
-    subst (Holds (first_field text)) are.joined (first-joined (fields_of text) are.some)
+    subst (HoldsMark (first_field text)) are.joined (first-joined (fields_of text) are.some)
 
 module _ {R : Type 0} (format : Format R) (name : List ℕ) where
   -- the line is no record of the name
@@ -88,8 +88,9 @@ module _ {R : Type 0} (format : Format R) (name : List ℕ) where
 module _ {R : Type 0} (format : Format R) (names_first : NamesFirst format) where
   -- a record's line has its name
   pub holds-name :
-      (text : List ℕ) (r : R) → format.read text ≡ Some r → Holds (format.name r) text
-  holds-name text r is = subst (λ name. Holds name text) (names_first text r is) (holds-first text)
+      (text : List ℕ) (r : R) → format.read text ≡ Some r → HoldsMark (format.name r) text
+  holds-name text r is =
+      subst (λ name. HoldsMark name text) (names_first text r is) (holds-first text)
 
   module _ (name : List ℕ) where
     -- by what a line without the name reads as
@@ -100,7 +101,7 @@ module _ {R : Type 0} (format : Format R) (names_first : NamesFirst format) wher
         → (elim kept [ None ↦ false | Some r ↦ is_named format name r ]) ≡ false
     unnamed-by text None is without = refl
     unnamed-by text (Some r) is without = elim (cases_Bool (is_named format name r)) [
-      | inl named ↦ absurd (without (subst (λ n. Holds n text)
+      | inl named ↦ absurd (without (subst (λ n. HoldsMark n text)
           ((bytes_eq-Decides (format.name r) name).0 named) (holds-name text r is)))
       | inr other ↦ other
     ]

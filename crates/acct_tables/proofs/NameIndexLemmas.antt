@@ -12,7 +12,7 @@ use Rattle.std.proofs.lemmas.Slice.Eq.{bytes_eq-Decides}
 use Rattle.acct_text.specs.Lines.{Line}
 use Rattle.account_model.specs.Format.{Format}
 use Rattle.acct_tables.specs.declared.name_index.NamedLines.{NamedLines}
-use Rattle.acct_tables.specs.NameIndex.{IsLineNoted, IsNoted, Tells, TellsAtMost, Told, has_name, line_name, line_names, lines_named, records_at, with_last}
+use Rattle.acct_tables.specs.NameIndex.{IsLineNoted, IsNoted, TellsOf, TellsAtMost, Told, has_name, line_name, line_names, lines_named, records_at, with_last}
 
 -- ---- One line more
 
@@ -122,12 +122,12 @@ noted-by true place here there behind same is =
     ap (λ found. Some (with_last place found)) (same refl)
 noted-by false place here there behind same is = is
 
-module _ (names : List (Option (List ℕ))) (old : Told) (tells : Tells names old) where
+module _ (names : List (Option (List ℕ))) (old : Told) (tells : TellsOf names old) where
   -- a record of the name behind all lines is noted
   pub told-record :
       (name : List ℕ) (new : Told)
       → IsNoted name (length names) old new
-      → Tells (names ++ Some name ∷ []) new
+      → TellsOf (names ++ Some name ∷ []) new
   told-record name new noted = λ other.
       noted other
       ∙ noted-by (bytes_eq name other) (length names) (old name) (old other)
@@ -136,15 +136,15 @@ module _ (names : List (Option (List ℕ))) (old : Told) (tells : Tells names ol
       ∙ sym (lines-end other names (Some name))
 
   -- other text stands behind all lines
-  pub told-other : Tells (names ++ None ∷ []) old
+  pub told-other : TellsOf (names ++ None ∷ []) old
   told-other = λ name. tells name ∙ sym (lines-end name names None)
 
   -- a line is noted behind all, a record or other text
   pub told-line :
       (name : Option (List ℕ)) (new : Told)
       → IsLineNoted name (length names) old new
-      → Tells (names ++ name ∷ []) new
-  told-line None new same = subst (λ told. Tells (names ++ None ∷ []) told) (sym same) told-other
+      → TellsOf (names ++ name ∷ []) new
+  told-line None new same = subst (λ told. TellsOf (names ++ None ∷ []) told) (sym same) told-other
   told-line (Some name) new noted = told-record name new noted
 
   -- by whether some line has the name

@@ -7,14 +7,14 @@ use Rattle.acct_text.specs.Lines.{Line, lines_of}
 use Rattle.acct_tables.specs.declared.marks.Marks.{Marks}
 
 -- the bytes of the mark stand somewhere in the text, in a row
-pub record Holds (mark text : List ℕ) : Type 0 where
+pub record HoldsMark (mark text : List ℕ) : Type 0 where
   pub before : List ℕ
   pub behind : List ℕ
   pub is : text ≡ before ++ (mark ++ behind)
 
 -- they stand nowhere in it
 abbrev pub IsWithout : List ℕ → List ℕ → Type 0
-IsWithout mark text = Holds mark text → ⊥
+IsWithout mark text = HoldsMark mark text → ⊥
 
 -- the text of a file from one of its lines on, in front of which no line has the mark
 pub record IsFromMark (mark text rest : List ℕ) : Type 0 where

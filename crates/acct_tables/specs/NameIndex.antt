@@ -61,8 +61,8 @@ abbrev pub told : NameIndex → Told
 told index name = get_by (λ key. bytes_eq name key.now) index.names
 
 -- of each name it is told what is so among lines of these names
-abbrev pub Tells : List (Option (List ℕ)) → Told → Type 0
-Tells names told = (name : List ℕ) → told name ≡ lines_named name names
+abbrev pub TellsOf : List (Option (List ℕ)) → Told → Type 0
+TellsOf names told = (name : List ℕ) → told name ≡ lines_named name names
 
 -- of no name more than so many records are told
 abbrev pub TellsAtMost : ℕ → Told → Type 0

@@ -2,7 +2,7 @@
 // (passwd(5), shadow(5), group(5), gshadow(5)).
 ghost use Rattle.std.specs.Prelude.{◌≡◌, ◌+◌, ◌<◌, ◌≤◌, ◌^◌, [], is_some, IfOk, IfSome, OnOk};
 ghost use Rattle.acct_text.specs.Lines.{lines_of};
-ghost use Rattle.acct_tables.specs.NameIndex.{IsNoted, Tells, TellsAtMost, are_several, begins_before, line_names, told, with_last};
+ghost use Rattle.acct_tables.specs.NameIndex.{IsNoted, TellsOf, TellsAtMost, are_several, begins_before, line_names, told, with_last};
 
 use crate::{Lines, name_of};
 use acct_lines::TableRecord;
@@ -37,7 +37,7 @@ impl<'a> Drop for NameIndex<'a> {
 impl<'a> NameIndex<'a> {
     /// The index of no lines. It allocates nothing before the first `add`.
     pub fn new(alloc: Global) -> Self
-        ensures { Tells [] (told result) }
+        ensures { TellsOf [] (told result) }
     {
         NameIndex {
             names: IndexMap::new(alloc),
@@ -47,7 +47,7 @@ impl<'a> NameIndex<'a> {
     /// The index of the lines of a file of such records with these bytes, in one pass.
     pub fn of<R: TableRecord>(alloc: Global, text: &'a [u8]) -> Result<Self, AllocError>
         ensures { IfOk result (λ index.
-            Tells (line_names R.format (lines_of text.now)) (told index)) }
+            TellsOf (line_names R.format (lines_of text.now)) (told index)) }
     {
         let mut index = NameIndex::new(alloc);
         let mut place = 0usize;

@@ -17,7 +17,7 @@ use Rattle.account_model.specs.declared.refusal.LineProblem.{LineProblem}
 use Rattle.account_model.specs.declared.refusal.Refusal.{Refusal}
 use Rattle.account_model.specs.declared.refusal.Refusal.TheVariants.{BadLine}
 use Rattle.account_model.specs.Chpasswd.{bad_line_from, line_problem, line_script}
-use Rattle.aging_commands.specs.HashLines.{HashLine, hash_line, hash_script, line_refusal, seen_line}
+use Rattle.aging_commands.specs.HashLines.{HashLine, hash_line, script_for, line_refusal, seen_new}
 use Rattle.aging_commands.specs.declared.hash_lines.NewHash.{NewHash}
 
 -- ---- Bad lines
@@ -154,17 +154,17 @@ module _ (whose : HashesOf) (input : List ℕ) (places : List (ℕ × ℕ)) (ind
 -- by what was read
 scripts-seen :
     (whose : HashesOf) (files : Files) (day : ℕ) (hashes : List NewHash)
-    → map (λ hash. hash_script whose files day (seen_line hash)) hashes
-    ≡ map (hash_script whose files day) (map seen_line hashes)
+    → map (λ hash. script_for whose files day (seen_new hash)) hashes
+    ≡ map (script_for whose files day) (map seen_new hashes)
 scripts-seen whose files day [] = refl
 scripts-seen whose files day (hash ∷ hashes) =
-    ap (λ scripts. hash_script whose files day (seen_line hash) ∷ scripts)
+    ap (λ scripts. script_for whose files day (seen_new hash) ∷ scripts)
     (scripts-seen whose files day hashes)
 
 -- by the texts
 scripts-texts :
     (whose : HashesOf) (files : Files) (day : ℕ) (lines : List Line)
-    → map (hash_script whose files day) (map hash_line (texts_of lines))
+    → map (script_for whose files day) (map hash_line (texts_of lines))
     ≡ map (line_script whose files day) lines
 scripts-texts whose files day [] = refl
 scripts-texts whose files day (line ∷ lines) =
@@ -173,9 +173,9 @@ scripts-texts whose files day (line ∷ lines) =
 -- the scripts of the lines that were read are those of the lines
 pub scripts-read :
     (whose : HashesOf) (files : Files) (day : ℕ) (hashes : List NewHash) (lines : List Line)
-    → map seen_line hashes ≡ map hash_line (texts_of lines)
-    → map (λ hash. hash_script whose files day (seen_line hash)) hashes
+    → map seen_new hashes ≡ map hash_line (texts_of lines)
+    → map (λ hash. script_for whose files day (seen_new hash)) hashes
     ≡ map (line_script whose files day) lines
 scripts-read whose files day hashes lines read =
-    scripts-seen whose files day hashes ∙ ap (map (hash_script whose files day)) read
+    scripts-seen whose files day hashes ∙ ap (map (script_for whose files day)) read
     ∙ scripts-texts whose files day lines

@@ -7,7 +7,7 @@ ghost use Rattle.account_model.specs.Tables.{in_order};
 ghost use Rattle.table_edits.specs.Acting.{ActsBy};
 ghost use Rattle.table_edits.specs.Additions.{HasAlso};
 ghost use Rattle.table_edits.specs.SeenScript.{seen_script};
-ghost use Rattle.aging_commands.specs.HashLines.{hash_script, seen_line};
+ghost use Rattle.aging_commands.specs.HashLines.{script_for, seen_new};
 
 use crate::hash_lines::{NewHash, read_hashes};
 use account_model::HashesOf;
@@ -44,7 +44,7 @@ fn new_hashes(
     day: u32,
 ) -> Result<Script, AllocError>
     ensures { IfOk result (λ script. seen_script script
-        ≡ in_order (map (λ hash. hash_script whose tables.now day (seen_line hash)) hashes.now)) }
+        ≡ in_order (map (λ hash. script_for whose tables.now day (seen_new hash)) hashes.now)) }
 {
     let mut script = Script::new(alloc);
     'hashes: for hash in hashes {
@@ -63,7 +63,7 @@ fn set_hash(
     day: u32,
 ) -> Result<(), AllocError>
     ensures { OnOk result
-        (HasAlso (hash_script whose tables.now day (seen_line new.now)) script.old script.new) }
+        (HasAlso (script_for whose tables.now day (seen_new new.now)) script.old script.new) }
 {
     match whose {
         HashesOf::Users => set_user_hash(alloc, script, new, tables, day),

@@ -4,7 +4,7 @@ ghost use Rattle.acct_text.specs.Limits.{table_limit};
 ghost use Rattle.acct_text.specs.Lines.{lines_of, texts_of};
 ghost use Rattle.account_model.specs.Chpasswd.{bad_line_from, has_account as is_there, unknown as unknown_name};
 ghost use Rattle.table_edits.specs.Stopping.{StopsBy};
-ghost use Rattle.aging_commands.specs.HashLines.{IsCut, hash_line, line_refusal, seen_line};
+ghost use Rattle.aging_commands.specs.HashLines.{IsCut, hash_line, line_refusal, seen_new};
 
 use account_model::{HashesOf, LineProblem, Refusal};
 use acct_text::{Bytes, cut_once, lines};
@@ -35,7 +35,7 @@ pub(crate) fn read_hashes<'a>(
     requires { length input.now ≤ table_limit }
     ensures refused { StopsBy (bad_line_from whose 1 tables.now (lines_of input.now)) result }
     ensures read { IfOk result (λ hashes.
-        map seen_line hashes.items ≡ map hash_line (texts_of (lines_of input.now))) }
+        map seen_new hashes.items ≡ map hash_line (texts_of (lines_of input.now))) }
 {
     let places = lines(alloc, input)?;
     let mut hashes = Vec::new(alloc);
@@ -50,8 +50,8 @@ pub(crate) fn read_hashes<'a>(
 
 // Adds a line behind the others.
 fn push_hash<'a>(hashes: &mut Vec<NewHash<'a>>, hash: NewHash<'a>) -> Result<(), AllocError>
-    ensures { OnOk result (map seen_line hashes.new.items
-        ≡ map seen_line hashes.old.items ++ seen_line hash.entry ∷ []) }
+    ensures { OnOk result (map seen_new hashes.new.items
+        ≡ map seen_new hashes.old.items ++ seen_new hash.entry ∷ []) }
 {
     hashes.push(hash)?;
     Ok(())
@@ -66,7 +66,7 @@ fn read_hash<'a>(
     tables: &Tables,
 ) -> Result<NewHash<'a>, ToolFault>
     ensures refused { StopsBy (line_refusal whose tables.now number line.now) result }
-    ensures read { IfOk result (λ hash. seen_line hash ≡ hash_line line.now) }
+    ensures read { IfOk result (λ hash. seen_new hash ≡ hash_line line.now) }
 {
     let Some(new) = cut_at_colon(line) else {
         return Err(bad_line(number, LineProblem::NoColon));

@@ -27,7 +27,7 @@ use Rattle.line_edits.specs.declared.edit.Edit.{Edit}
 use Rattle.line_edits.specs.declared.subid_changes.SubidChange.{SubidChange}
 use Rattle.line_edits.specs.declared.subid_changes.RangeCut.{RangeCut}
 use Rattle.line_edits.specs.declared.subid_changes.SubidChange.TheVariants.{Cut, Remove}
-use Rattle.line_edits.specs.WrittenLines.{IsWrittenRead, AreWritten as AreWrittenLines}
+use Rattle.line_edits.specs.WrittenLines.{IsWrittenRead, AreWrittenLines}
 use Rattle.line_edits.proofs.WrittenLines.{lines-written}
 use Rattle.subid_ranges.specs.RangeNumbers.{AreNumbersOf}
 use Rattle.subid_ranges.specs.declared.range_numbers.RangeNumbers.{RangeNumbers}

@@ -18,7 +18,7 @@ use Rattle.account_model.proofs.SameLaws.{subid-tells}
 use Rattle.account_model.specs.FreeRange.{meets}
 use Rattle.line_edits.specs.SubidChanges.{subid_becomes}
 use Rattle.line_edits.specs.declared.subid_changes.SubidChange.TheVariants.{Remove, Rename}
-use Rattle.subid_ranges.specs.Gathered.{GoesOn}
+use Rattle.subid_ranges.specs.Gathered.{GathersMore}
 use Rattle.subid_ranges.specs.Owned.{first_and_count}
 use Rattle.subid_ranges.specs.RangeNumbers.{AreNumbersOf, LosesRanges}
 use Rattle.subid_ranges.specs.declared.range_numbers.RangeNumbers.{RangeNumbers}
@@ -54,7 +54,7 @@ pub numbers-added :
     → IsWrittenEdit subid_format (Add r)
     → is_some file ≡ true
     → AreNumbersIn file old
-    → GoesOn AreNumbersOf (r ∷ []) old new
+    → GathersMore AreNumbersOf (r ∷ []) old new
     → AreNumbersIn (table_after subid_format (Add r ∷ []) file) new
 numbers-added r file old new written there are goes =
     subst (λ ranges. AreNumbersOf ranges new) (sym (after-edit (Add r) file written there))

@@ -21,6 +21,6 @@ is_edited edited Subuid = edited.subuid
 is_edited edited Subgid = edited.subgid
 
 -- each table that isn't edited is the first one
-abbrev pub AreLeft : TouchedTables → Files → Files → Type 0
-AreLeft edited first last = (table : Tab) → is_edited edited table ≡ false
+abbrev pub UneditedStay : TouchedTables → Files → Files → Type 0
+UneditedStay edited first last = (table : Tab) → is_edited edited table ≡ false
     → table_of last table ≡ table_of first table

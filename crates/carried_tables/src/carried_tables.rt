@@ -11,7 +11,7 @@ ghost use Rattle.line_edits.specs.ShadowChanges.{shadow_becomes};
 ghost use Rattle.line_edits.specs.SubidChanges.{subid_becomes};
 ghost use Rattle.table.specs.Standing.{IsTaken};
 ghost use Rattle.table.specs.TableEdits.{AreWritten, table_by};
-ghost use Rattle.carried_tables.specs.Changes.{AreLeft, StandWhere};
+ghost use Rattle.carried_tables.specs.Changes.{UneditedStay, StandWhere};
 
 use crate::touched_tables::take_edited;
 use crate::{IdTable, RangeTable, TouchedTables};
@@ -195,7 +195,7 @@ impl<'a> CarriedTables<'a> {
         edited: TouchedTables,
     ) -> Result<NewTables, AllocError>
         requires stand { StandWhere first.now self.old }
-        requires left { AreLeft edited first.now self.old }
+        requires left { UneditedStay edited first.now self.old }
         ensures { IfOk result (λ tables.
             tables ≡ changed_tables (table_of first.now) (table_of self.old)) }
     {

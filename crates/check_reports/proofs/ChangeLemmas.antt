@@ -20,7 +20,7 @@ use Rattle.acct_tables.specs.declared.name_index.NamedLines.{NamedLines}
 use Rattle.acct_tables.proofs.NameIndexLemmas.{none-counts}
 use Rattle.acct_tables.specs.TablesOfLines.{lines_in}
 use Rattle.check_reports.specs.declared.sorting.ByPlace.{ByPlace}
-use Rattle.check_reports.specs.LineChanges.{is_met, met_in}
+use Rattle.check_reports.specs.LineChanges.{is_met_by, met_in}
 use Rattle.check_reports.specs.Secrets.{HasSecrets, found_text, shown_by}
 use Rattle.check_reports.specs.declared.secrets.Secrets.{Secrets}
 use Rattle.check_reports.specs.Converted.{accounts_of}
@@ -107,7 +107,7 @@ module _ {R : Type 0} (format : Format R) where
       (f : R → List R) (all records : List R) (order : ByPlace)
       → IsOrderOf format all order
       → TellsAtMost 1 (told order.names)
-      → find (is_met format f all) records ≡ None
+      → find (is_met_by format f all) records ≡ None
   differ-none f all [] order is few = refl
   differ-none f all (r ∷ records) order is few =
       let one : is_multiple format all r ≡ false =
@@ -119,8 +119,8 @@ module _ {R : Type 0} (format : Format R) where
       passes :
           (b c : Bool)
           → c ≡ false
-          → find (is_met format f all) records ≡ None
-          → (if b && c then Some r else find (is_met format f all) records) ≡ None
+          → find (is_met_by format f all) records ≡ None
+          → (if b && c then Some r else find (is_met_by format f all) records) ≡ None
       passes true c single rest = rw single rest
       passes false c single rest = rest
 
@@ -128,23 +128,23 @@ module _ {R : Type 0} (format : Format R) where
   pub found-behind :
       (f : R → List R) (records : List R) (line : Line) (rest : List Line)
       → met_in format f records line.text ≡ None
-      → find (is_met format f records) (records_of format (line ∷ rest))
-      ≡ find (is_met format f records) (records_of format rest)
+      → find (is_met_by format f records) (records_of format (line ∷ rest))
+      ≡ find (is_met_by format f records) (records_of format rest)
   found-behind f records line rest none = by (format.read line.text) refl
     where
       by :
           (o : Option R)
           → format.read line.text ≡ o
-          → find (is_met format f records) (cons_option o (records_of format rest))
-          ≡ find (is_met format f records) (records_of format rest)
+          → find (is_met_by format f records) (cons_option o (records_of format rest))
+          ≡ find (is_met_by format f records) (records_of format rest)
       by None reads = refl
-      by (Some r) reads = passes (is_met format f records r) (rw (met_in, reads) at none)
+      by (Some r) reads = passes (is_met_by format f records r) (rw (met_in, reads) at none)
         where
           passes :
               (b : Bool)
               → (if b then Some (format.name r) else None) ≡ None
-              → (if b then Some r else find (is_met format f records) (records_of format rest))
-              ≡ find (is_met format f records) (records_of format rest)
+              → (if b then Some r else find (is_met_by format f records) (records_of format rest))
+              ≡ find (is_met_by format f records) (records_of format rest)
           passes true none = absurd cc
           passes false none = refl
 
@@ -153,22 +153,22 @@ module _ {R : Type 0} (format : Format R) where
       (f : R → List R) (records : List R) (line : Line) (rest : List Line) (name : List ℕ)
       → Some name ≡ met_in format f records line.text
       → Some name ≡ option_map format.name
-      (find (is_met format f records) (records_of format (line ∷ rest)))
+      (find (is_met_by format f records) (records_of format (line ∷ rest)))
   found-here f records line rest name met = by (format.read line.text) refl
     where
       by :
           (o : Option R)
           → format.read line.text ≡ o
           → Some name ≡ option_map format.name
-          (find (is_met format f records) (cons_option o (records_of format rest)))
+          (find (is_met_by format f records) (cons_option o (records_of format rest)))
       by None reads = let none = rw (met_in, reads) at met in absurd cc
-      by (Some r) reads = passes (is_met format f records r) (rw (met_in, reads) at met)
+      by (Some r) reads = passes (is_met_by format f records r) (rw (met_in, reads) at met)
         where
           passes :
               (b : Bool)
               → Some name ≡ (if b then Some (format.name r) else None)
               → Some name ≡ option_map format.name
-              (if b then Some r else find (is_met format f records) (records_of format rest))
+              (if b then Some r else find (is_met_by format f records) (records_of format rest))
           passes true met = met
           passes false met = absurd cc
 

@@ -16,7 +16,7 @@ use Rattle.account_model.specs.Format.{Format, find_named, has_named, is_named, 
 use Rattle.account_model.specs.RecordEdits.{IsWrittenEdit, TellsSame}
 use Rattle.account_model.specs.Written.{IsWritten}
 use Rattle.account_model.proofs.EditLaws.{edit-is}
-use Rattle.acct_tables.specs.NameIndex.{Tells, line_names, told}
+use Rattle.acct_tables.specs.NameIndex.{TellsOf, line_names, told}
 use Rattle.acct_tables.specs.SeenLines.{end_for, missing_end}
 use Rattle.acct_tables.proofs.EditedFiles.{edit-found}
 use Rattle.acct_tables.proofs.LinesAhead.{appended, last-tells}
@@ -175,7 +175,7 @@ made-written format make (Some other) m is written =
 pub grown-fresh :
     {M H : Type 0} (main : Format M) (format : Format H) (grown : Grown) (text : List ℕ)
     → grown.text ≡ text
-    → Tells (line_names format (lines_of text)) (told grown.there)
+    → TellsOf (line_names format (lines_of text)) (told grown.there)
     → grown.place ≡ 0
     → IsGrown main format [] grown
 grown-fresh main format grown text is there placed = record {

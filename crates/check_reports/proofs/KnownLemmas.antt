@@ -10,7 +10,7 @@ use Rattle.account_model.specs.declared.records.GroupRecord.{GroupRecord}
 use Rattle.account_model.specs.Format.{Format, has_named, records_of}
 use Rattle.account_model.specs.Tables.{table_records}
 use Rattle.account_model.specs.Ids.{is_used}
-use Rattle.acct_tables.specs.NameIndex.{IsLineNoted, Tells, Told, begins_before, line_name, line_names, told}
+use Rattle.acct_tables.specs.NameIndex.{IsLineNoted, TellsOf, Told, begins_before, line_name, line_names, told}
 use Rattle.acct_tables.proofs.NameIndexLemmas.{told-line}
 use Rattle.acct_tables.proofs.NamedRecords.{told-before, told-has}
 use Rattle.acct_tables.specs.TablesOfLines.{lines_in}
@@ -41,8 +41,8 @@ module _ {R : Type 0} (format : Format R) where
   -- behind the last line the names are those of all records
   pub whole-by :
       (is_whole : Bool) (all : List Line) (told : Told)
-      → Tells (line_names format (if is_whole then all else all)) told
-      → Tells (line_names format all) told
+      → TellsOf (line_names format (if is_whole then all else all)) told
+      → TellsOf (line_names format all) told
   whole-by true all told tells = tells
   whole-by false all told tells = tells
 
@@ -50,14 +50,14 @@ module _ {R : Type 0} (format : Format R) where
     -- by whether all names were there, those up to the line are
     pub next-by :
         (is_whole : Bool) (all : List Line) (old new : Told)
-        → Tells (line_names format (if is_whole then all else done)) old
+        → TellsOf (line_names format (if is_whole then all else done)) old
         → (is_whole ≡ true → new ≡ old)
         → (is_whole ≡ false → IsLineNoted (line_name format line) (length done) old new)
-        → Tells (line_names format (if is_whole then all else done ++ line ∷ [])) new
+        → TellsOf (line_names format (if is_whole then all else done ++ line ∷ [])) new
     next-by true all old new tells same noted =
-        subst (λ told. Tells (line_names format all) told) (sym (same refl)) tells
+        subst (λ told. TellsOf (line_names format all) told) (sym (same refl)) tells
     next-by false all old new tells same noted =
-        subst (λ names. Tells names new) (sym (map-append (line_name format) done (line ∷ [])))
+        subst (λ names. TellsOf names new) (sym (map-append (line_name format) done (line ∷ [])))
         (told-line (line_names format done) old tells (line_name format line) new
         (subst (λ n. IsLineNoted (line_name format line) n old new)
         (sym (length-map done (line_name format))) (noted refl)))
@@ -65,7 +65,7 @@ module _ {R : Type 0} (format : Format R) where
     -- the record of the line has the name of one before it where that is told, whatever is behind
     before-told :
         (ahead : List Line) (told : Told) (r : R)
-        → Tells (line_names format (done ++ line ∷ ahead)) told
+        → TellsOf (line_names format (done ++ line ∷ ahead)) told
         → format.read line.text ≡ Some r
         → has_named format (format.name r) (records_of format done)
         ≡ begins_before (length done) (told (format.name r))
@@ -76,7 +76,7 @@ module _ {R : Type 0} (format : Format R) where
     -- by whether all names are there
     pub before-by :
         (is_whole : Bool) (rest : List Line) (told : Told) (r : R)
-        → Tells (line_names format
+        → TellsOf (line_names format
         (if is_whole then done ++ line ∷ rest else done ++ line ∷ [])) told
         → format.read line.text ≡ Some r
         → has_named format (format.name r) (records_of format done)

@@ -9,7 +9,7 @@ use Rattle.std.proofs.lemmas.List.{length-map, map-append}
 use Rattle.account_model.proofs.SameLaws.{bytes-self}
 use Rattle.acct_text.specs.Lines.{Line, lines_of}
 use Rattle.account_model.specs.Format.{Format, has_named, is_named, records_of}
-use Rattle.acct_tables.specs.NameIndex.{IsNoted, Tells, TellsAtMost, are_several, begins_before, has_name, records_at, told, with_last}
+use Rattle.acct_tables.specs.NameIndex.{IsNoted, TellsOf, TellsAtMost, are_several, begins_before, has_name, records_at, told, with_last}
 use Rattle.acct_tables.specs.declared.name_index.NamedLines.{NamedLines}
 use Rattle.acct_tables.proofs.LinesCounted.{lines-counted}
 use Rattle.acct_tables.proofs.NameIndexLemmas.{told-record, told-within}
@@ -175,7 +175,7 @@ module _ {R : Type 0} (format : Format R) where
       → IsPlaced name before after
       → IsOrderOf format (records ++ r ∷ []) after
   order-placed records r name before after same is placed = record {
-    first = subst (λ names. Tells names (told after.names))
+    first = subst (λ names. TellsOf names (told after.names))
         (sym (map-append (λ r. Some (format.name r)) records (r ∷ [])))
         (told-record (names records) (told before.names) is.first (format.name r)
         (told after.names)

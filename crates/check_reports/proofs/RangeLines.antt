@@ -10,7 +10,7 @@ use Rattle.account_model.specs.declared.records.SubidRecord.{SubidRecord}
 use Rattle.account_model.specs.declared.refusal.Refusal.TheVariants.{NoRanges}
 use Rattle.account_model.specs.declared.tool.Tool.{Tool}
 use Rattle.account_model.specs.Action.{outcome_of}
-use Rattle.account_model.specs.Getsubids.{getsubids, listed_records, range_line, range_lines_from, ranges_of}
+use Rattle.account_model.specs.Getsubids.{getsubids, listed_records, range_line, range_lines_from, ranges_of_user}
 use Rattle.account_model.specs.Records.{subid_format}
 use Rattle.account_model.specs.Request.{Request, has_option, operand}
 use Rattle.account_model.specs.SubidOwner.{is_owned}
@@ -68,7 +68,7 @@ module _ (request : Request) (files : Files) (listed : Option (List ℕ)) (user 
     (is_uid : uid ≡ uid_of user files) where
   -- the ranges that were found are those of the request
   pub ranges-found :
-      filter (is_owned user uid) (table_records subid_format listed) ≡ ranges_of request files
+      filter (is_owned user uid) (table_records subid_format listed) ≡ ranges_of_user request files
   ranges-found =
       ap (λ uid. filter (is_owned user uid) (table_records subid_format listed)) is_uid
       ∙ ap (λ user. filter (is_owned user (uid_of user files)) (table_records subid_format listed))
@@ -82,7 +82,7 @@ module _ (request : Request) (files : Files) (listed : Option (List ℕ)) (user 
 -- without a range it refuses
 pub none-refuses :
     (tool : Tool) (request : Request) (files : Files) (decision : Decision)
-    → is_empty (ranges_of request files) ≡ true
+    → is_empty (ranges_of_user request files) ≡ true
     → decision
     ≡ Refuse (NoRanges (operand request)) (refusal_output tool (NoRanges (operand request)))
     → DecidesBy tool (getsubids request files) files decision
@@ -91,6 +91,6 @@ none-refuses tool request files decision none is = rw (none, outcome_of) is
 -- and with one it doesn't
 pub some-listed :
     (request : Request) (files : Files)
-    → is_empty (ranges_of request files) ≡ false
+    → is_empty (ranges_of_user request files) ≡ false
     → first_some (getsubids request files).refusals ≡ None
 some-listed request files some = rw some refl

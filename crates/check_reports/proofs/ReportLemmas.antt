@@ -10,7 +10,7 @@ use Rattle.account_model.specs.Problems.{Located, problem_lines, report_status}
 use Rattle.tool_answers.specs.declared.decision.Decision.{Decision}
 use Rattle.check_reports.specs.declared.report.Report.{Report}
 use Rattle.check_reports.specs.Decided.{DecidesBy}
-use Rattle.check_reports.specs.Reported.{shown, status_of, with_problems}
+use Rattle.check_reports.specs.Reported.{to_show, status_in, with_problems}
 use Rattle.check_reports.proofs.ReportWalk.{clean-append}
 
 module _ (is_quiet : Bool) (first_tab second_tab : Tab) (first second : List Located)
@@ -23,8 +23,8 @@ module _ (is_quiet : Bool) (first_tab second_tab : Tab) (first second : List Loc
       both ≡ record {
         is_quiet = is_quiet;
         is_clean = is_empty (first ++ second);
-        lines = problem_lines first_tab (shown is_quiet first)
-            ++ problem_lines second_tab (shown is_quiet second);
+        lines = problem_lines first_tab (to_show is_quiet first)
+            ++ problem_lines second_tab (to_show is_quiet second);
       }
   both-reported =
       second_more
@@ -33,20 +33,20 @@ module _ (is_quiet : Bool) (first_tab second_tab : Tab) (first second : List Loc
       ∙ (λ i. record {
         is_quiet = is_quiet;
         is_clean = clean-append true first second i;
-        lines = problem_lines first_tab (shown is_quiet first)
-            ++ problem_lines second_tab (shown is_quiet second);
+        lines = problem_lines first_tab (to_show is_quiet first)
+            ++ problem_lines second_tab (to_show is_quiet second);
       })
 
   -- what is told of it
   pub told-both :
       (tool : Tool) (files : Files) (decision : Decision)
-      → DecidesBy tool (reports [] (status_of both) both.lines) files decision
+      → DecidesBy tool (reports [] (status_in both) both.lines) files decision
       → DecidesBy tool
       (reports [] (report_status (first ++ second))
-      (problem_lines first_tab (shown is_quiet first)
-      ++ problem_lines second_tab (shown is_quiet second)))
+      (problem_lines first_tab (to_show is_quiet first)
+      ++ problem_lines second_tab (to_show is_quiet second)))
       files decision
   told-both tool files decision =
-      subst (λ (report : Report). DecidesBy tool (reports [] (status_of report) report.lines) files
+      subst (λ (report : Report). DecidesBy tool (reports [] (status_in report) report.lines) files
       decision)
       both-reported

@@ -15,14 +15,14 @@ use Rattle.acct_text.specs.Lines.{Line}
 use Rattle.account_model.specs.Format.{Format, has_named, records_of}
 use Rattle.account_model.specs.Problems.{DuplicateName, InvalidEntry, Located, Problem, RecordProblems, at_line, duplicate_name, is_nis, is_notice, problem_if, problem_line, problem_lines, problems_behind, problems_of_line, table_problems}
 use Rattle.acct_tables.specs.declared.name_index.NameIndex.{NameIndex}
-use Rattle.acct_tables.specs.NameIndex.{IsLineNoted, Tells, TellsAtMost, begins_before, line_name, line_names, told}
+use Rattle.acct_tables.specs.NameIndex.{IsLineNoted, TellsOf, TellsAtMost, begins_before, line_name, line_names, told}
 use Rattle.acct_tables.proofs.NameIndexLemmas.{told-within}
 use Rattle.acct_tables.specs.TablesOfLines.{lines_in}
 use Rattle.check_reports.specs.declared.known.NamedFile.{NamedFile}
 use Rattle.check_reports.specs.declared.report.Checked.{Checked}
 use Rattle.check_reports.specs.declared.report.Report.{Report}
 use Rattle.check_reports.specs.Known.{HasNoted, IsWhole, NotesLine, TellsBefore}
-use Rattle.check_reports.specs.Reported.{IsChecked, repeated_name, shown, with_problems}
+use Rattle.check_reports.specs.Reported.{IsChecked, repeated_name, to_show, with_problems}
 use Rattle.check_reports.proofs.KnownLemmas.{before-by, next-by, whole-by}
 use Rattle.check_reports.proofs.RecordWalk.{HaveTaken}
 
@@ -31,13 +31,13 @@ use Rattle.check_reports.proofs.RecordWalk.{HaveTaken}
 -- what is shown of problems behind others
 shown-append :
     (is_quiet : Bool) (first second : List Located)
-    → shown is_quiet (first ++ second) ≡ shown is_quiet first ++ shown is_quiet second
+    → to_show is_quiet (first ++ second) ≡ to_show is_quiet first ++ to_show is_quiet second
 shown-append true first second =
     filter-append (λ located. not (is_notice located.problem)) first second
 shown-append false first second = refl
 
 -- none of no problem is shown
-none-shown : (is_quiet : Bool) → shown is_quiet [] ≡ []
+none-shown : (is_quiet : Bool) → to_show is_quiet [] ≡ []
 none-shown true = refl
 none-shown false = refl
 
@@ -62,13 +62,13 @@ module _ (tab : Tab) where
       ≡ with_problems tab (first ++ second) report
   problems-after first second report =
       let is_quiet = report.is_quiet in
-      let lines : (report.lines ++ problem_lines tab (shown is_quiet first))
-      ++ problem_lines tab (shown is_quiet second)
-      ≡ report.lines ++ problem_lines tab (shown is_quiet (first ++ second)) =
-      append_assoc report.lines (problem_lines tab (shown is_quiet first))
-      (problem_lines tab (shown is_quiet second))
+      let lines : (report.lines ++ problem_lines tab (to_show is_quiet first))
+      ++ problem_lines tab (to_show is_quiet second)
+      ≡ report.lines ++ problem_lines tab (to_show is_quiet (first ++ second)) =
+      append_assoc report.lines (problem_lines tab (to_show is_quiet first))
+      (problem_lines tab (to_show is_quiet second))
       ∙ ap (λ back. report.lines ++ back)
-      (sym (flat_map-append (problem_line tab) (shown is_quiet first) (shown is_quiet second)))
+      (sym (flat_map-append (problem_line tab) (to_show is_quiet first) (to_show is_quiet second)))
       ∙ ap (λ problems. report.lines ++ problem_lines tab problems)
       (sym (shown-append is_quiet first second)) in
       λ i. record {
@@ -80,7 +80,7 @@ module _ (tab : Tab) where
   -- without a problem the report stays
   pub no-problem : (report : Report) → with_problems tab [] report ≡ report
   no-problem report =
-      let lines : report.lines ++ problem_lines tab (shown report.is_quiet []) ≡ report.lines =
+      let lines : report.lines ++ problem_lines tab (to_show report.is_quiet []) ≡ report.lines =
       ap (λ problems. report.lines ++ problem_lines tab problems) (none-shown report.is_quiet)
       ∙ append-nil report.lines in
       λ i. record {
@@ -172,7 +172,7 @@ module _ {R : Type 0} (format : Format R) (problems : RecordProblems R) (tab : T
       subst (λ n. TellsAtMost n (told table.names))
       (length-map done (line_name format) ∙ sym is.counted)
       (told-within (line_names format done) (told table.names)
-      (subst (λ (is_whole : Bool). Tells (line_names format (if is_whole then all else done))
+      (subst (λ (is_whole : Bool). TellsOf (line_names format (if is_whole then all else done))
       (told table.names)) partial is.noted))
 
   module _ (line : Line) (rest : List Line) (first : left ≡ line ∷ rest) where
@@ -193,7 +193,7 @@ module _ {R : Type 0} (format : Format R) (problems : RecordProblems R) (tab : T
 
     module _ (after : NamedFile) (notes : NotesLine (line_name format line) place table after) where
       -- the names that are kept then are those up to the line, or of all
-      names-next : Tells (line_names format
+      names-next : TellsOf (line_names format
           (if table.is_whole then all else done ++ line ∷ [])) (told after.names)
       names-next =
           next-by format done line table.is_whole all (told table.names) (told after.names) is.noted
@@ -207,7 +207,7 @@ module _ {R : Type 0} (format : Format R) (problems : RecordProblems R) (tab : T
           TellsBefore format after.names place (records_of format done) line.text
       tells-before = λ r reads.
           before-by format done line table.is_whole rest (told after.names) r
-          (subst (λ lines. Tells
+          (subst (λ lines. TellsOf
           (line_names format (if table.is_whole then lines else done ++ line ∷ []))
           (told after.names)) (sym all-are) names-next) reads
           ∙ ap (λ n. begins_before n (told after.names (format.name r))) (sym is.counted)
@@ -251,6 +251,6 @@ module _ {R : Type 0} (format : Format R) (problems : RecordProblems R) (tab : T
     pub names-end : IsWhole format table
     names-end =
         whole-by format table.is_whole all (told table.names)
-        (subst (λ lines. Tells (line_names format (if table.is_whole then all else lines))
+        (subst (λ lines. TellsOf (line_names format (if table.is_whole then all else lines))
         (told table.names))
         (sym (append-nil done) ∙ ap (λ left. done ++ left) (sym none) ∙ is.taken.joined) is.noted)

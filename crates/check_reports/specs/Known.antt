@@ -5,7 +5,7 @@ use Rattle.acct_text.specs.Lines.{Line}
 use Rattle.account_model.specs.declared.records.GroupRecord.{GroupRecord}
 use Rattle.account_model.specs.Format.{Format, has_named}
 use Rattle.acct_tables.specs.declared.name_index.NameIndex.{NameIndex}
-use Rattle.acct_tables.specs.NameIndex.{IsLineNoted, Tells, begins_before, line_names, told}
+use Rattle.acct_tables.specs.NameIndex.{IsLineNoted, TellsOf, begins_before, line_names, told}
 use Rattle.acct_tables.specs.TablesOfLines.{lines_in}
 use Rattle.check_reports.specs.declared.known.NamedFile.{NamedFile}
 
@@ -19,11 +19,11 @@ kept_lines table done = if table.is_whole then lines_in table.file.now else done
 
 -- the names that are kept are those of the lines that were checked, or of all
 abbrev pub HasNoted : {R : Type 0} → Format R → List Line → NamedFile → Type 0
-HasNoted format done table = Tells (line_names format (kept_lines table done)) (told table.names)
+HasNoted format done table = TellsOf (line_names format (kept_lines table done)) (told table.names)
 
 -- the names that are kept are those of all records
 abbrev pub IsWhole : {R : Type 0} → Format R → NamedFile → Type 0
-IsWhole format table = Tells (line_names format (lines_in table.file.now)) (told table.names)
+IsWhole format table = TellsOf (line_names format (lines_in table.file.now)) (told table.names)
 
 -- the line at this place is noted by its name, or by none, where the names of all aren't there
 pub record NotesLine (name : Option (List ℕ)) (place : ℕ) (old new : NamedFile) : Type 0 where

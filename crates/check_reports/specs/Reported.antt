@@ -12,20 +12,20 @@ use Rattle.check_reports.specs.declared.report.Checked.{Checked}
 use Rattle.check_reports.specs.declared.report.Report.{Report}
 
 -- what is shown of problems: where it is to be quiet, notices are left out
-abbrev pub shown : Bool → List Located → List Located
-shown is_quiet problems = if is_quiet then without_notices problems else problems
+abbrev pub to_show : Bool → List Located → List Located
+to_show is_quiet problems = if is_quiet then without_notices problems else problems
 
 -- the report with these problems of a table behind those that it has
 abbrev pub with_problems : Tab → List Located → Report → Report
 with_problems tab problems report = record {
   is_quiet = report.is_quiet;
   is_clean = report.is_clean && is_empty problems;
-  lines = report.lines ++ problem_lines tab (shown report.is_quiet problems);
+  lines = report.lines ++ problem_lines tab (to_show report.is_quiet problems);
 }
 
 -- the status of a report: 2 where it has a problem, a notice too
-abbrev pub status_of : Report → ℕ
-status_of report = if report.is_clean then 0 else bad_entries
+abbrev pub status_in : Report → ℕ
+status_in report = if report.is_clean then 0 else bad_entries
 
 -- the problem that the index tells of a record in front of a place with the name of that one
 abbrev pub repeated_name : NameIndex → ℕ → Option (List ℕ) → List Problem

@@ -12,7 +12,7 @@ use Rattle.account_model.specs.Edits as model
 use Rattle.account_model.specs.Edits.{Arrange}
 use Rattle.account_model.specs.Tables.{Script, files_after, table_after, table_records}
 use Rattle.account_model.specs.Action.{multiple_entries}
-use Rattle.acct_tables.specs.NameIndex.{IsNoted, Tells, TellsAtMost, are_several, told}
+use Rattle.acct_tables.specs.NameIndex.{IsNoted, TellsOf, TellsAtMost, are_several, told}
 use Rattle.check_reports.specs.declared.sorting.ByPlace.{ByPlace}
 use Rattle.check_reports.specs.declared.sorting.Keyed.{Keyed}
 
@@ -28,7 +28,7 @@ kept_place kept name =
 -- the places and the count that are kept are those of the records, counted from 0
 pub record IsOrderOf {R : Type 0} (format : Format R) (records : List R) (kept : ByPlace)
     : Type 0 where
-  pub first : Tells (map (λ r. Some (format.name r)) records) (told kept.names)
+  pub first : TellsOf (map (λ r. Some (format.name r)) records) (told kept.names)
   pub counted : kept.count ≡ length records
   -- where the names are said to differ, each has one record
   pub differ : kept.differ ≡ true → TellsAtMost 1 (told kept.names)

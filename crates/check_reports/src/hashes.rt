@@ -3,7 +3,7 @@
 ghost use Rattle.std.specs.Prelude.{◌≡◌, [], Some, option_map, IfOk, IfSome, MatchResult};
 ghost use Rattle.account_model.specs.Faults.{shadow_fault};
 ghost use Rattle.account_model.specs.Records.{shadow_format};
-ghost use Rattle.acct_tables.specs.NameIndex.{Tells, line_names, told};
+ghost use Rattle.acct_tables.specs.NameIndex.{TellsOf, line_names, told};
 ghost use Rattle.acct_tables.specs.TablesOfLines.{lines_in};
 ghost use Rattle.check_reports.specs.Hashes.{hash_in, seen_hash};
 
@@ -71,8 +71,8 @@ impl<'a> HashLines<'a> {
         file: &'a Option<Bytes>,
         names: &mut NameIndex<'a>,
     ) -> Result<Self, AllocError>
-        requires { Tells [] (told names.old) }
-        ensures { IfOk result (λ _. Tells (line_names shadow_format (lines_in file.now))
+        requires { TellsOf [] (told names.old) }
+        ensures { IfOk result (λ _. TellsOf (line_names shadow_format (lines_in file.now))
             (told names.new)) }
     {
         let mut lines = Vec::new(alloc);

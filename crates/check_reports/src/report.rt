@@ -8,7 +8,7 @@ ghost use Rattle.account_model.specs.Problems.{RecordProblems, at_line, duplicat
 ghost use Rattle.acct_lines.specs.Reading.{MatchRead};
 ghost use Rattle.check_reports.specs.Decided.{DecidesBy};
 ghost use Rattle.check_reports.specs.Known.{HasNoted, IsWhole, TellsBefore};
-ghost use Rattle.check_reports.specs.Reported.{IsChecked, repeated_name, status_of, with_problems};
+ghost use Rattle.check_reports.specs.Reported.{IsChecked, repeated_name, status_in, with_problems};
 ghost use Rattle.check_reports.specs.Seen.{seen_problem};
 
 use crate::decision::told;
@@ -189,7 +189,7 @@ impl Report {
     /// notice too, and else with 0 (pwck(8), grpck(8), "EXIT VALUES").
     pub(crate) fn told(self, alloc: Global) -> Decision
         ensures { (tool : Tool) (files : Files) → DecidesBy tool
-            (reports [] (status_of self) self.lines) files result }
+            (reports [] (status_in self) self.lines) files result }
     {
         let status = self.status();
         told(alloc, status, self.lines)
@@ -197,7 +197,7 @@ impl Report {
 
     // The status.
     fn status(&self) -> u8
-        ensures { result ≡ status_of self.now }
+        ensures { result ≡ status_in self.now }
     {
         if self.is_clean { 0 } else { BAD_ENTRIES }
     }

@@ -13,7 +13,7 @@ use Rattle.acct_text.specs.Pieces.{cut_at}
 use Rattle.acct_text.proofs.CutOnce.{cut-before, cut-behind, cut-has, uncut-has}
 use Rattle.account_model.specs.declared.settings.Key.{Key}
 use Rattle.account_model.specs.Text.{equals_sign}
-use Rattle.account_model.specs.Settings.{Setting, find_key, user_groups_key, allows, allowed_value, is_allowed, is_setting_word, word_setting}
+use Rattle.account_model.specs.Settings.{Setting, find_key, user_groups_key, allows, allowed_value, is_allowed_value, is_setting_word, word_setting}
 use Rattle.login_defs.specs.declared.defs.KeyFault.TheVariants.{UnknownKey}
 use Rattle.login_defs.specs.Faults.{value_fault, setting_fault}
 
@@ -43,7 +43,7 @@ no_fault-by value false (Some key) unknown = no_fault-allowed value key
 -- the tests of a word: it has a `=`, a known key, and a value that the key allows
 abbrev tests_of : Bool → List ℕ → List ℕ → Bool
 tests_of has key value =
-    has && (is_some (find_key key) || bytes_eq key user_groups_key) && is_allowed key value
+    has && (is_some (find_key key) || bytes_eq key user_groups_key) && is_allowed_value key value
 
 -- a call is done exactly where it has no fault
 pub is_ok-told :

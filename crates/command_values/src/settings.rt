@@ -7,7 +7,7 @@ ghost use Rattle.account_model.specs.NewAccount.{settings_for};
 ghost use Rattle.account_model.specs.Refusals.{refuse_if, bad_key};
 ghost use Rattle.tool_answers.specs.Refusing.{RefusesBy};
 ghost use Rattle.command_values.specs.Chosen.{AddsSettings, GivesId};
-ghost use Rattle.login_defs.specs.Held.{Adds};
+ghost use Rattle.login_defs.specs.Held.{AddsSetting};
 
 use crate::asked::value_at;
 use crate::{Asked, ToolFault};
@@ -40,7 +40,7 @@ impl Asked<'_> {
 fn put_word(alloc: Global, settings: &mut Defs, word: &[u8]) -> Result<(), ToolFault>
     ensures refused { RefusesBy
         (refuse_if (not (is_setting_word word.now)) (Refusal.BadKey word.now)) result }
-    ensures put { OnOk result (Adds settings.old settings.new (word_setting word.now)) }
+    ensures put { OnOk result (AddsSetting settings.old settings.new (word_setting word.now)) }
 {
     if set_word(settings, word) {
         return Ok(());
@@ -51,7 +51,7 @@ fn put_word(alloc: Global, settings: &mut Defs, word: &[u8]) -> Result<(), ToolF
 // Puts the setting of a word behind the others; false where the word is no setting.
 fn set_word(settings: &mut Defs, word: &[u8]) -> bool
     ensures told { result ≡ is_setting_word word.now }
-    ensures set { OnTrue result (Adds settings.old settings.new (word_setting word.now)) }
+    ensures set { OnTrue result (AddsSetting settings.old settings.new (word_setting word.now)) }
 {
     match cut_once(b'=', word) {
         Some(cut) => settings.with(cut.before, cut.behind).is_ok(),

@@ -35,7 +35,7 @@ use Rattle.commit_steps.specs.declared.Loading.{Loading}
 use Rattle.commit_steps.specs.declared.Loading.TheVariants.{More, Done}
 use Rattle.commit_steps.specs.declared.LoadEnd.{LoadEnd}
 use Rattle.commit_steps.specs.declared.LoadEnd.TheVariants.{Fault, TooLarge, NoTable}
-use Rattle.commit_steps.specs.States.{AreSound, Reader, Inputs, is_before, inputs_of, next_name, read_on, start_of, table_after}
+use Rattle.commit_steps.specs.States.{AreSound, Reader, Inputs, is_before, inputs_of, next_name, read_on, start_of, table_behind}
 use Rattle.commit_steps.specs.Stands.{HasRead, HasLoaded, HasMissed, KnowsSome, KnowsInputs, StandsLoading, StandsEnded}
 use Rattle.commit_steps.specs.Outcomes.{Loads, is_missing}
 use Rattle.commit_steps.proofs.TablesLemmas.{before-after}
@@ -133,7 +133,7 @@ module _ (keeper : Kept) (files : Files) where
       seen : Seen
       seen = held.keeps.knows.seen
 
-      cases : (other : Tab) → is_before other (table_after table) ≡ true →
+      cases : (other : Tab) → is_before other (table_behind table) ≡ true →
           (same : Bool) → same_table other table ≡ same →
           (if same_table other table then Some content else seen.file (Table other))
           ≡ Some (table_of (with_table table content files) other)

@@ -20,7 +20,7 @@ use Rattle.acct_text.specs.Tables.{all_tables, table_place, same_table}
 use Rattle.intent_file.specs.Intent.{NewTable}
 use Rattle.acct_text.specs.ChangedTables.{with_new_table, changed_among}
 use Rattle.acct_outside.proofs.NameLemmas.{table-is}
-use Rattle.commit_steps.specs.States.{Change, Walker, AreSound, has_staged, old_files, new_files, changed, table_after, is_before, steps_left, tables_left}
+use Rattle.commit_steps.specs.States.{Change, Walker, AreSound, has_staged, old_files, new_files, changed, table_behind, is_before, steps_left, tables_left}
 use Rattle.commit_steps.specs.Outcomes.{is_missing}
 
 -- The tables that differ, where the same are absent before and after.
@@ -109,12 +109,12 @@ all-done walker none within = take_all walker.place (changed walker.change)
     (behind-all (length (changed walker.change)) walker.place (has_staged walker) none within)
 
 -- a table before the one after this is this one or before it
-pub before-after : (table other : Tab) → is_before other (table_after table) ≡ true →
+pub before-after : (table other : Tab) → is_before other (table_behind table) ≡ true →
     same_table other table ≡ false → is_before other (Some table) ≡ true
 before-after table other before differs = steps (table_place other) (table_place table)
     (counted table other before) differs
   where
-    counted : (table other : Tab) → is_before other (table_after table) ≡ true →
+    counted : (table other : Tab) → is_before other (table_behind table) ≡ true →
         table_place other < suc (table_place table)
     counted Subgid Passwd before = omega arith
     counted Subgid Shadow before = omega arith
@@ -132,7 +132,7 @@ before-after table other before differs = steps (table_place other) (table_place
 pub sound-on : (table : Tab) (content : Option Bytes) (files : Files) →
     AreSound (Some table) files → is_missing table content ≡ false →
     IfSome content (λ bytes. length bytes ≤ table_limit) →
-    AreSound (table_after table) (with_table table content files)
+    AreSound (table_behind table) (with_table table content files)
 sound-on table content files sound stands limit = record {
   passwd = passwd-on table content files sound stands;
   group = group-on table content files sound stands;
@@ -159,14 +159,14 @@ sound-on table content files sound stands limit = record {
 
     passwd-on : (table : Tab) (content : Option Bytes) (files : Files) →
         AreSound (Some table) files → is_missing table content ≡ false →
-        is_before Passwd (table_after table) ≡ true →
+        is_before Passwd (table_behind table) ≡ true →
         IsSome (with_table table content files).passwd
     passwd-on Passwd content files sound stands before = stands-then content stands
     passwd-on table content files sound stands before = sound.passwd refl
 
     group-on : (table : Tab) (content : Option Bytes) (files : Files) →
         AreSound (Some table) files → is_missing table content ≡ false →
-        is_before Group (table_after table) ≡ true →
+        is_before Group (table_behind table) ≡ true →
         IsSome (with_table table content files).group
     group-on Passwd content files sound stands before = absurd (true≢false (sym before))
     group-on Shadow content files sound stands before = absurd (true≢false (sym before))

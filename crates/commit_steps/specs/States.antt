@@ -65,13 +65,13 @@ pub record MakesChange (tables : List NewTable) (files : Files) : Type 0 where
   pub listed : tables ≡ changed_tables (table_of files) (table_of (with_tables tables files))
 
 -- the table that is read after one, and none after the last
-abbrev pub table_after : Tab → Option Tab
-table_after Passwd = Some Shadow
-table_after Shadow = Some Group
-table_after Group = Some Gshadow
-table_after Gshadow = Some Subuid
-table_after Subuid = Some Subgid
-table_after Subgid = None
+abbrev pub table_behind : Tab → Option Tab
+table_behind Passwd = Some Shadow
+table_behind Shadow = Some Group
+table_behind Group = Some Gshadow
+table_behind Gshadow = Some Subuid
+table_behind Subuid = Some Subgid
+table_behind Subgid = None
 
 -- a table comes before the one that is next; all come before login.defs
 abbrev pub is_before : Tab → Option Tab → Bool
@@ -98,7 +98,7 @@ start_of keeper = record { keeper = keeper; files = no_files; next = Some Passwd
 abbrev pub read_on : Reader → Tab → Option Bytes → Reader
 read_on reader table content = record reader {
   files = with_table table content reader.files;
-  next = table_after table;
+  next = table_behind table;
 }
 
 -- the keeper once login.defs is read

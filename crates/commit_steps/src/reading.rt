@@ -15,7 +15,7 @@ ghost use Rattle.suite_rules.specs.Steps.{StandsIn, own_command, TakesStep};
 ghost use Rattle.suite_rules.specs.Outcomes.{before_commit};
 ghost use Rattle.lock_steps.specs.NextCall.{IsNextCall};
 ghost use Rattle.intent_file.specs.Intent.{ReadsIntent, intent_text};
-ghost use Rattle.commit_steps.specs.States.{AreSound, MakesChange, change_by, intended, next_name, table_after, start_of, walk_of};
+ghost use Rattle.commit_steps.specs.States.{AreSound, MakesChange, change_by, intended, next_name, table_behind, start_of, walk_of};
 ghost use Rattle.commit_steps.specs.Stands.{HasRead, StandsEnded, HoldsLoading};
 ghost use Rattle.commit_steps.specs.Outcomes.{Loads, LoadsContent, LoadsTable, is_missing};
 
@@ -174,7 +174,7 @@ impl Loader {
             return Err(LoadEnd::NoTable(table, self.keeper));
         }
         self.files.put(table, content);
-        self.next = table_after(table);
+        self.next = table_behind(table);
         Ok(Loading::More(self))
     }
 }
@@ -190,8 +190,8 @@ fn is_missing(table: Tab, content: &Option<Bytes>) -> bool
 }
 
 // The table that is read after this one, and none after the last.
-fn table_after(table: Tab) -> Option<Tab>
-    ensures { result ≡ table_after table }
+fn table_behind(table: Tab) -> Option<Tab>
+    ensures { result ≡ table_behind table }
 {
     match table {
         Tab::Passwd => Some(Tab::Shadow),

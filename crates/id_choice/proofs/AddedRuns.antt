@@ -8,7 +8,7 @@ use Rattle.std.specs.Ordering.{nat_cmp}
 use Rattle.std.proofs.lemmas.Bool.{cases_lt, cases_order, le-ltb, lt-ltb, ne_eqb, or_cases, or_left, or_right, le-leb, leb-true, and_parts, and_from}
 use Rattle.std.proofs.lemmas.Option.{none-some, same_Some}
 use Rattle.account_model.specs.Ids.{in_range, is_used}
-use Rattle.id_choice.specs.RunMaps.{AreApart, BeginsAt, EndsAt, IsWithout, LiesIn, numbers_of}
+use Rattle.id_choice.specs.RunMaps.{IsRunMap, BeginsAt, EndsAt, IsWithoutRuns, LiesIn, numbers_of}
 use Rattle.id_choice.specs.Runs.{AddsAll}
 use Rattle.id_choice.proofs.RunLemmas.{lies-used, used-lies}
 
@@ -38,11 +38,11 @@ in-bounds first last number above below =
 
 module _
     (old mid new : BTreeMap ℕ ℕ) (first last begin end : ℕ)
-    (apart : AreApart old)
+    (apart : IsRunMap old)
     (begins : BeginsAt old first begin)
     (ends : EndsAt old last end)
     (updates : Updates nat_cmp old mid begin (Some end))
-    (without : IsWithout mid new begin end) where
+    (without : IsWithoutRuns mid new begin end) where
   -- a run that begins before the joined one stays
   before-stays : (f : ℕ) → f < begin → get nat_cmp new f ≡ get nat_cmp old f
   before-stays f less =

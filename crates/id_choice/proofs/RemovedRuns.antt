@@ -9,7 +9,7 @@ use Rattle.std.proofs.lemmas.Bool.{and_from, and_parts, and_right, cases_eq, cas
 use Rattle.std.proofs.lemmas.Option.{none-some, same_Some}
 use Rattle.account_model.specs.Ids.{in_range, is_used}
 use Rattle.id_choice.specs.declared.runs.Run.{Run}
-use Rattle.id_choice.specs.RunMaps.{AreApart, AreApartUpTo, EndsBefore, HasRun, HasUpTo, IsWithout, KeepsBehind, LiesIn, numbers_of}
+use Rattle.id_choice.specs.RunMaps.{IsRunMap, AreApartUpTo, EndsBefore, HoldsRun, HasUpTo, IsWithoutRuns, KeepsBehind, LiesIn, numbers_of}
 use Rattle.id_choice.specs.Runs.{LosesAll, LosesOne}
 use Rattle.id_choice.proofs.AddedRuns.{in-bounds, tests-agree}
 use Rattle.id_choice.proofs.RunLemmas.{EndBefore, lies-used, used-lies}
@@ -81,7 +81,7 @@ none-by (Some value) never = absurd (never value refl)
 record IsPart (old : BTreeMap ℕ ℕ) (first last begin end : ℕ) : Type 0 where
   old_begin : ℕ
   old_end : ℕ
-  run : HasRun old old_begin old_end
+  run : HoldsRun old old_begin old_end
   not_before : old_begin ≤ begin
   begins : (begin ≡ old_begin) ⊎ (begin ≡ last + 1)
   ordered : begin ≤ end
@@ -133,11 +133,11 @@ ended-before runs number run apart up past =
 pub kept-apart :
     (old kept : BTreeMap ℕ ℕ) (first last : ℕ)
     → first ≤ last
-    → AreApart old
+    → IsRunMap old
     → KeepsBehind old kept last
     → AreApartUpTo kept first
 kept-apart old kept first last ordered apart keeps =
-    let was = λ (begin end : ℕ) (run : HasRun kept begin end) (before : begin ≤ first).
+    let was = λ (begin end : ℕ) (run : HoldsRun kept begin end) (before : begin ≤ first).
     sym (keeps.beside begin (λ same. lt_irrefl last (omega (arith, same, before, ordered)))) ∙ run in
     record {
       keys = keeps.ordered;
@@ -151,10 +151,10 @@ kept-apart old kept first last ordered apart keeps =
 module _
     (old kept ended new : BTreeMap ℕ ℕ) (first last : ℕ)
     (ordered : first ≤ last)
-    (apart : AreApart old)
+    (apart : IsRunMap old)
     (keeps : KeepsBehind old kept last)
     (ends : EndsBefore kept ended first)
-    (without : IsWithout ended new first last) where
+    (without : IsWithoutRuns ended new first last) where
   -- a run that begins before the numbers ends before them
   before-is :
       (begin : ℕ)
@@ -190,7 +190,7 @@ module _
   -- a run that is left before the numbers
   part-before :
       (begin end : ℕ)
-      → HasRun new begin end
+      → HoldsRun new begin end
       → begin < first
       → IsPart old first last begin end
   part-before begin end is less =
@@ -212,7 +212,7 @@ module _
   -- one that is left behind them
   part-behind :
       (begin end : ℕ)
-      → HasRun new begin end
+      → HoldsRun new begin end
       → last < begin
       → IsPart old first last begin end
   part-behind begin end is more = elim (cases_eq begin (last + 1)) [
@@ -244,7 +244,7 @@ module _
   ]
 
   -- each run that is left is a part of an old one
-  part-of : (begin end : ℕ) → HasRun new begin end → IsPart old first last begin end
+  part-of : (begin end : ℕ) → HoldsRun new begin end → IsPart old first last begin end
   part-of begin end is = elim (cases_lt begin first) [
     | inl less ↦ part-before begin end is less
     | inr above ↦ elim (cases_lt last begin) [
@@ -291,7 +291,7 @@ module _
       ]
 
   -- the runs that are left lie apart
-  pub cut-apart : AreApart new
+  pub cut-apart : IsRunMap new
   cut-apart = record {
     keys = without.ordered;
     ordered = λ begin end is. (part-of begin end is).ordered;

@@ -15,7 +15,7 @@ use Rattle.std.proofs.lemmas.Map.Lookups.{exact_unsigned}
 use Rattle.std.proofs.lemmas.Map.Views.{btree_map_get_iff}
 use Rattle.account_model.specs.Ids.{is_used}
 use Rattle.id_choice.specs.declared.runs.Run.{Run}
-use Rattle.id_choice.specs.RunMaps.{AreApart, HasFrom, HasNoneFrom, HasNoneUpTo, HasRun, HasUpTo, LiesIn, numbers_of}
+use Rattle.id_choice.specs.RunMaps.{IsRunMap, HasFrom, HasNoneFrom, HasNoneUpTo, HoldsRun, HasUpTo, LiesIn, numbers_of}
 use Rattle.id_choice.specs.Runs.{HasNothingFrom, HasNothingUpTo, IsFirstFrom, IsLastUpTo, IsWholeRun}
 
 -- a number up to another doesn't pass it
@@ -128,7 +128,7 @@ placed-used (first ∷ runs) number (suc place) run inside is above below =
 -- each run that begins up to a number ends before it
 abbrev pub EndBefore : BTreeMap ℕ ℕ → ℕ → Type 0
 EndBefore runs number =
-    (first last : ℕ) → HasRun runs first last → first ≤ number → last < number
+    (first last : ℕ) → HoldsRun runs first last → first ≤ number → last < number
 
 -- ---- The numbers of a map
 
@@ -169,11 +169,11 @@ module _ (runs : BTreeMap ℕ ℕ) (keys : IsOrdered nat_cmp runs) where
       false_from_ne_true (is_used (numbers_of runs.entries) number)
       (λ is. free (used-lies number is))
 
-module _ (runs : BTreeMap ℕ ℕ) (apart : AreApart runs) where
+module _ (runs : BTreeMap ℕ ℕ) (apart : IsRunMap runs) where
   -- the number before a run lies in none
   before-free :
       (first last number : ℕ)
-      → HasRun runs first last
+      → HoldsRun runs first last
       → number + 1 ≡ first
       → LiesIn runs number
       → ⊥
@@ -185,9 +185,9 @@ module _ (runs : BTreeMap ℕ ℕ) (apart : AreApart runs) where
   -- a number behind a run, which no later run begins up to, lies in none
   behind-free :
       (first last number : ℕ)
-      → HasRun runs first last
+      → HoldsRun runs first last
       → last < number
-      → ((next end : ℕ) → HasRun runs next end → next ≤ number → next ≤ first)
+      → ((next end : ℕ) → HoldsRun runs next end → next ≤ number → next ≤ first)
       → LiesIn runs number
       → ⊥
   behind-free first last number run past none lies =
@@ -207,8 +207,8 @@ module _ (runs : BTreeMap ℕ ℕ) (apart : AreApart runs) where
   -- behind a run no other begins up to the number behind it
   none-next :
       (first last next end : ℕ)
-      → HasRun runs first last
-      → HasRun runs next end
+      → HoldsRun runs first last
+      → HoldsRun runs next end
       → next ≤ last + 1
       → next ≤ first
   none-next first last next end run other before = elim (cases_lt first next) [
@@ -221,7 +221,7 @@ module _ (runs : BTreeMap ℕ ℕ) (apart : AreApart runs) where
   -- a run is as long as it can be
   run-whole :
       (run : Run)
-      → HasRun runs run.first run.last
+      → HoldsRun runs run.first run.last
       → IsWholeRun (numbers_of runs.entries) run
   run-whole run has = record {
     ordered = apart.ordered run.first run.last has;

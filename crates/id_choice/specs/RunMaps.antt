@@ -11,22 +11,22 @@ abbrev pub numbers_of : List (ℕ × ℕ) → List ℕ
 numbers_of runs = flat_map (λ run. range_with_len run.0 (run.1 + 1 - run.0)) runs
 
 -- the map has a run from the first number to the last
-abbrev pub HasRun : BTreeMap ℕ ℕ → ℕ → ℕ → Type 0
-HasRun runs first last = get nat_cmp runs first ≡ Some last
+abbrev pub HoldsRun : BTreeMap ℕ ℕ → ℕ → ℕ → Type 0
+HoldsRun runs first last = get nat_cmp runs first ≡ Some last
 
 -- the runs hold 32-bit numbers in order, and between two of them a number is missing
-pub record AreApart (runs : BTreeMap ℕ ℕ) : Type 0 where
+pub record IsRunMap (runs : BTreeMap ℕ ℕ) : Type 0 where
   pub keys : IsOrdered nat_cmp runs
-  pub ordered : (first last : ℕ) → HasRun runs first last → first ≤ last
-  pub small : (first last : ℕ) → HasRun runs first last → last < 2 ^ 32
+  pub ordered : (first last : ℕ) → HoldsRun runs first last → first ≤ last
+  pub small : (first last : ℕ) → HoldsRun runs first last → last < 2 ^ 32
   pub apart : (first last next end : ℕ)
-      → HasRun runs first last → HasRun runs next end → first < next → last + 1 < next
+      → HoldsRun runs first last → HoldsRun runs next end → first < next → last + 1 < next
 
 -- a number lies in a run
 pub record LiesIn (runs : BTreeMap ℕ ℕ) (number : ℕ) : Type 0 where
   pub first : ℕ
   pub last : ℕ
-  pub run : HasRun runs first last
+  pub run : HoldsRun runs first last
   pub begins : first ≤ number
   pub ends : number ≤ last
 
@@ -38,9 +38,9 @@ HasNoneUpTo runs number = (first : ℕ) → first ≤ number → get nat_cmp run
 
 -- of the runs that begin there, this one is the last
 pub record HasUpTo (runs : BTreeMap ℕ ℕ) (number : ℕ) (run : Run) : Type 0 where
-  pub has : HasRun runs run.first run.last
+  pub has : HoldsRun runs run.first run.last
   pub begins : run.first ≤ number
-  pub last_one : (first last : ℕ) → HasRun runs first last → first ≤ number → first ≤ run.first
+  pub last_one : (first last : ℕ) → HoldsRun runs first last → first ≤ number → first ≤ run.first
 
 -- no run begins at the number or behind it
 abbrev pub HasNoneFrom : BTreeMap ℕ ℕ → ℕ → Type 0
@@ -48,9 +48,9 @@ HasNoneFrom runs number = (first : ℕ) → number ≤ first → get nat_cmp run
 
 -- of the runs that begin there, this one is the first
 pub record HasFrom (runs : BTreeMap ℕ ℕ) (number : ℕ) (run : Run) : Type 0 where
-  pub has : HasRun runs run.first run.last
+  pub has : HoldsRun runs run.first run.last
   pub begins : number ≤ run.first
-  pub first_one : (first last : ℕ) → HasRun runs first last → number ≤ first → run.first ≤ first
+  pub first_one : (first last : ℕ) → HoldsRun runs first last → number ≤ first → run.first ≤ first
 
 -- ---- The run that numbers become with those that they touch
 
@@ -58,13 +58,13 @@ pub record HasFrom (runs : BTreeMap ℕ ℕ) (number : ℕ) (run : Run) : Type 0
 pub record BeginsAt (runs : BTreeMap ℕ ℕ) (number begin : ℕ) : Type 0 where
   pub not_behind : begin ≤ number
   pub filled : (n : ℕ) → begin ≤ n → n < number → LiesIn runs n
-  pub apart : (first last : ℕ) → HasRun runs first last → first < begin → last + 1 < begin
+  pub apart : (first last : ℕ) → HoldsRun runs first last → first < begin → last + 1 < begin
 
 -- it ends with these numbers, or with a run that meets or touches the last of them
 pub record EndsAt (runs : BTreeMap ℕ ℕ) (number end : ℕ) : Type 0 where
   pub not_before : number ≤ end
   pub filled : (n : ℕ) → number < n → n ≤ end → LiesIn runs n
-  pub apart : (first last : ℕ) → HasRun runs first last → first ≤ end + 1 → last ≤ end
+  pub apart : (first last : ℕ) → HoldsRun runs first last → first ≤ end + 1 → last ≤ end
 
 -- ---- What is removed
 
@@ -80,7 +80,7 @@ pub record HasBehind (runs : BTreeMap ℕ ℕ) (number end first : ℕ) : Type 0
   pub has : IsSome (get nat_cmp runs first)
 
 -- the new map is the old one without the runs that begin behind the number, up to the end
-pub record IsWithout (old new : BTreeMap ℕ ℕ) (number end : ℕ) : Type 0 where
+pub record IsWithoutRuns (old new : BTreeMap ℕ ℕ) (number end : ℕ) : Type 0 where
   pub removed : HasNoneBehind new number end
   pub before : (first : ℕ) → first ≤ number → get nat_cmp new first ≡ get nat_cmp old first
   pub past : (first : ℕ) → end < first → get nat_cmp new first ≡ get nat_cmp old first
@@ -91,13 +91,13 @@ pub record IsWithout (old new : BTreeMap ℕ ℕ) (number end : ℕ) : Type 0 wh
 -- a run goes on behind the number, or begins there
 pub record GoesPast (runs : BTreeMap ℕ ℕ) (number last : ℕ) : Type 0 where
   pub first : ℕ
-  pub run : HasRun runs first last
+  pub run : HoldsRun runs first last
   pub begins : first ≤ number + 1
   pub ends : number < last
 
 -- a run begins behind the number exactly where one goes on there
 pub record KeepsBehind (old new : BTreeMap ℕ ℕ) (number : ℕ) : Type 0 where
-  pub kept : (last : ℕ) → HasRun new (number + 1) last ↔ GoesPast old number last
+  pub kept : (last : ℕ) → HoldsRun new (number + 1) last ↔ GoesPast old number last
   pub beside : (first : ℕ)
       → (first ≡ number + 1 → ⊥) → get nat_cmp new first ≡ get nat_cmp old first
   pub ordered : IsOrdered nat_cmp new
@@ -105,9 +105,10 @@ pub record KeepsBehind (old new : BTreeMap ℕ ℕ) (number : ℕ) : Type 0 wher
 -- the runs that begin up to the number are in order and don't meet
 pub record AreApartUpTo (runs : BTreeMap ℕ ℕ) (number : ℕ) : Type 0 where
   pub keys : IsOrdered nat_cmp runs
-  pub ordered : (first last : ℕ) → HasRun runs first last → first ≤ number → first ≤ last
+  pub ordered : (first last : ℕ) → HoldsRun runs first last → first ≤ number → first ≤ last
   pub apart : (first last next end : ℕ)
-      → HasRun runs first last → HasRun runs next end → first < next → next ≤ number → last < next
+      → HoldsRun runs first last → HoldsRun runs next end → first < next → next ≤ number
+      → last < next
 
 -- where a run ends that begins at the first number and ends before the other; none where it is empty
 abbrev pub last_before : ℕ → ℕ → Option ℕ

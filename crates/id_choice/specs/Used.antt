@@ -9,8 +9,8 @@ abbrev pub AreThoseOf : List ℕ → List ℕ → Type 0
 AreThoseOf used ids = (id : ℕ) → is_used used id ≡ is_used ids id
 
 -- the value is what each list of exactly the used IDs tells
-abbrev pub Gives : {X : Type 0} → List ℕ → (List ℕ → X) → X → Type 0
-Gives used told value = (ids : List ℕ) → AreThoseOf used ids → value ≡ told ids
+abbrev pub GivesByUsed : {X : Type 0} → List ℕ → (List ℕ → X) → X → Type 0
+GivesByUsed used told value = (ids : List ℕ) → AreThoseOf used ids → value ≡ told ids
 
 -- the preferred ID where it isn't used, and else the choice from the range (useradd(8), `-U`: the
 -- user's group takes the UID as its GID where it can)

@@ -4,7 +4,7 @@ ghost use Rattle.std.specs.Prelude.{◌≡◌, ◌≤◌, [], All, IfOk, IsSome,
 ghost use Rattle.std.specs.BTreeMap.{IsOrdered, IsUnchanged, Updates, get};
 ghost use Rattle.std.specs.Ordering.{nat_cmp};
 ghost use Rattle.account_model.specs.Ids.{is_used};
-ghost use Rattle.id_choice.specs.RunMaps.{AreApart, AreApartUpTo, BeginsAt, EndsAt, EndsBefore, HasBehind, HasFrom, HasNoneBehind, HasNoneFrom, HasNoneUpTo, HasRun, HasUpTo, IsWithout, KeepsBehind, last_before};
+ghost use Rattle.id_choice.specs.RunMaps.{IsRunMap, AreApartUpTo, BeginsAt, EndsAt, EndsBefore, HasBehind, HasFrom, HasNoneBehind, HasNoneFrom, HasNoneUpTo, HoldsRun, HasUpTo, IsWithoutRuns, KeepsBehind, last_before};
 
 use std::alloc::{AllocError, Global};
 use std::collections::BTreeMap;
@@ -28,13 +28,13 @@ pub struct Runs {
 
 impl Model for Runs {
     ghost use Rattle.std.specs.Prelude.{List, ℕ};
-    ghost use Rattle.id_choice.specs.RunMaps.{AreApart, numbers_of};
+    ghost use Rattle.id_choice.specs.RunMaps.{IsRunMap, numbers_of};
 
     ghost Value = { List ℕ };
 
     ghost view = { λ r. numbers_of r.runs.entries };
 
-    ghost invariant = { λ r. AreApart r.runs };
+    ghost invariant = { λ r. IsRunMap r.runs };
 }
 
 impl Runs {
@@ -181,7 +181,7 @@ fn run_behind(runs: &BTreeMap<u32, u32>, number: u32) -> Option<Run>
 
 // Where the run begins that numbers from this one on become part of.
 fn begin_of(runs: &BTreeMap<u32, u32>, number: u32) -> u32
-    requires { AreApart runs.now }
+    requires { IsRunMap runs.now }
     ensures { BeginsAt runs.now number result }
 {
     match run_up_to(runs, number) {
@@ -192,7 +192,7 @@ fn begin_of(runs: &BTreeMap<u32, u32>, number: u32) -> u32
 
 // Where the run ends that numbers up to this one become part of.
 fn end_of(runs: &BTreeMap<u32, u32>, number: u32) -> u32
-    requires { AreApart runs.now }
+    requires { IsRunMap runs.now }
     ensures { EndsAt runs.now number result }
 {
     match run_up_to(runs, number.saturating_add(1)) {
@@ -203,7 +203,7 @@ fn end_of(runs: &BTreeMap<u32, u32>, number: u32) -> u32
 
 // Where a run goes on behind a number, lets a run begin behind the number that ends where it ends.
 fn keep_behind(runs: &mut BTreeMap<u32, u32>, number: u32) -> Result<(), AllocError>
-    requires { AreApart runs.old }
+    requires { IsRunMap runs.old }
     ensures kept { OnOk result (KeepsBehind runs.old runs.new number) }
     ensures unchanged { OnErr result (IsUnchanged runs.old runs.new) }
 {
@@ -244,7 +244,7 @@ fn cut(runs: &mut BTreeMap<u32, u32>, first: u32, number: u32)
 // Removes the runs that begin behind a number, up to an end.
 fn remove_behind(runs: &mut BTreeMap<u32, u32>, number: u32, end: u32)
     requires { IsOrdered nat_cmp runs.old }
-    ensures { IsWithout runs.old runs.new number end }
+    ensures { IsWithoutRuns runs.old runs.new number end }
 {
     'runs: while let Some(first) = first_behind(runs, number, end) {
         runs.remove(&first);

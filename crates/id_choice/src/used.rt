@@ -3,7 +3,7 @@
 ghost use Rattle.std.specs.Prelude.{◌≡◌, List, ℕ, [], ◌∷◌, IfOk, OnOk, OnErr};
 ghost use Rattle.account_model.specs.Ids.{is_used};
 ghost use Rattle.id_choice.specs.Runs.{LosesOne};
-ghost use Rattle.id_choice.specs.Used.{AreThoseOf, Gives, id_for};
+ghost use Rattle.id_choice.specs.Used.{AreThoseOf, GivesByUsed, id_for};
 
 use crate::Runs;
 use crate::choice::chosen_id;
@@ -82,7 +82,7 @@ impl UsedIds {
         kind: Kind,
         preferred: Option<u32>,
     ) -> Option<u32>
-        ensures { Gives self.now (id_for preferred kind range) result }
+        ensures { GivesByUsed self.now (id_for preferred kind range) result }
     {
         match preferred {
             Some(id) if !self.holds(id) => preferred,

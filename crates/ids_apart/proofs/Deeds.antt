@@ -21,7 +21,7 @@ use Rattle.account_model.proofs.LawfulScripts.{IsWrittenOn}
 use Rattle.account_model.proofs.ToolLaws.{meaning}
 use Rattle.account_model.proofs.SameLaws.{passwd-tells, group-tells, subid-tells}
 use Rattle.account_model.proofs.EditLines.{table-edited}
-use Rattle.ids_apart.specs.Holders.{gid_holders, has_number, shares_gid, shares_uid, subgid_holders, subuid_holders, uid_holders}
+use Rattle.ids_apart.specs.Holders.{gid_holders, range_has, shares_gid, shares_uid, subgid_holders, subuid_holders, uid_holders}
 use Rattle.ids_apart.specs.Laws.{AddsNoHolder, DeedsAddNoHolders, MeetNoMore, NoneDoes}
 use Rattle.ids_apart.proofs.Keys.{has_key}
 use Rattle.ids_apart.proofs.Kept.{uid_key, gid_key, KeepsApart, table-meets}
@@ -57,7 +57,7 @@ module _ (request : Request) (input : List ℕ) (day : ℕ) (old : Files) (setti
       (subuid_holders number made.files)
   subuids-met number =
       subst (λ files. MeetNoMore (subuid_holders number old) (subuid_holders number files))
-      made_files (table-meets subid_format (has_number number) old.subuid script.subuid
+      made_files (table-meets subid_format (range_has number) old.subuid script.subuid
       (table-edited subid_format subid-tells refl) written.subuid (keeps.subuids number))
 
   -- subgid
@@ -65,7 +65,7 @@ module _ (request : Request) (input : List ℕ) (day : ℕ) (old : Files) (setti
       (subgid_holders number made.files)
   subgids-met number =
       subst (λ files. MeetNoMore (subgid_holders number old) (subgid_holders number files))
-      made_files (table-meets subid_format (has_number number) old.subgid script.subgid
+      made_files (table-meets subid_format (range_has number) old.subgid script.subgid
       (table-edited subid_format subid-tells refl) written.subgid (keeps.subgids number))
 
   -- passwd

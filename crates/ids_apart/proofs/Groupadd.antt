@@ -21,7 +21,7 @@ use Rattle.account_model.specs.Refusals.{refuse_if}
 use Rattle.account_model.specs.Action.{changes}
 use Rattle.account_model.specs.NewAccount.{kind_of, settings_for, new_hash, new_group, add_group}
 use Rattle.account_model.specs.Groupadd.{is_gid_taken, other_gid, new_gid, groupadd_checks, groupadd_conflicts, is_content, groupadd_script, groupadd}
-use Rattle.ids_apart.specs.Holders.{is_given, shares_gid_by}
+use Rattle.ids_apart.specs.Holders.{gives_id, shares_gid_by}
 use Rattle.account_model.proofs.KeptIds.{keep-composed}
 use Rattle.ids_apart.proofs.Keys.{has_key}
 use Rattle.ids_apart.proofs.Kept.{gid_key, KeepsApart, stays-table, kept-apart}
@@ -54,7 +54,7 @@ taken-by :
     (request : Request) (files : Files) (settings : List Setting) (given gid : ℕ)
     (forced taken : Bool)
     → is_gid_taken request files given ≡ taken
-    → (has_option (codes "o") request && is_given gid (Some given)) ≡ false
+    → (has_option (codes "o") request && gives_id gid (Some given)) ≡ false
     → (if forced
     then None
     else option_and_then (λ n. refuse_if (is_gid_taken request files n) (GidInUse n)) (Some given))
@@ -76,7 +76,7 @@ taken-by request files settings given gid false taken is shares none e =
 -- the new GID, by the one that is given
 gid-by :
     (request : Request) (files : Files) (settings : List Setting) (gid : ℕ) (given : Option ℕ)
-    → (has_option (codes "o") request && is_given gid given) ≡ false
+    → (has_option (codes "o") request && gives_id gid given) ≡ false
     → (if has_option (codes "f") request
     then None
     else option_and_then (λ n. refuse_if (is_gid_taken request files n) (GidInUse n)) given) ≡ None

@@ -24,7 +24,7 @@ use Rattle.account_model.specs.Action.{with_option, multiple_in, multiple_entrie
 use Rattle.account_model.specs.Groupmod.{taken_gid, groupmod_refusals, set_gid, rename_group, groupmod_script, groupmod}
 use Rattle.account_model.proofs.SameLaws.{group-tells}
 use Rattle.account_model.proofs.ListLaws.{all-append}
-use Rattle.ids_apart.specs.Holders.{has_number, is_given}
+use Rattle.ids_apart.specs.Holders.{range_has, gives_id}
 use Rattle.ids_apart.proofs.HolderEdits.{AddsNone, EditsMeetNoMore, none-meets}
 use Rattle.ids_apart.proofs.Keys.{has_key, KeepsKeys, where-keys, where-keep, all-keys-keep}
 use Rattle.ids_apart.proofs.Kept.{uid_key, gid_key, KeepsApart, stays-table, few-table}
@@ -177,7 +177,7 @@ module _ (group : List ℕ) (request : Request) (files : Files) where
   -- the groups, by the GID that is given and the group that is found
   groups-by :
       (id : ℕ) (given : Option ℕ) (found : Option GroupRecord) (with_o : Bool)
-      → (with_o && is_given id given) ≡ false
+      → (with_o && gives_id id given) ≡ false
       → group_named group files ≡ found
       → used_by files with_o given found ≡ None
       → first_multiple group_format
@@ -228,10 +228,10 @@ module _ (group : List ℕ) (request : Request) (files : Files) where
             (has_option (codes "o") request)
             shares refl passed.1.1.1.1.1.0
             (map-none (λ name. Multiple Group name) _ single.1.1.0));
-        subuids = λ n. few-table subid_format (has_number n) files.subuid
+        subuids = λ n. few-table subid_format (range_has n) files.subuid
             (groupmod_script group request files).subuid
             (leaves-none (groupmod_script group request files).subuid leaves.ranges.subuid n);
-        subgids = λ n. few-table subid_format (has_number n) files.subgid
+        subgids = λ n. few-table subid_format (range_has n) files.subgid
             (groupmod_script group request files).subgid
             (leaves-none (groupmod_script group request files).subgid leaves.ranges.subgid n);
       }

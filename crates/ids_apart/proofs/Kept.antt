@@ -15,7 +15,7 @@ use Rattle.account_model.specs.Request.{Request}
 use Rattle.account_model.specs.Tables.{Script, table_records, table_after}
 use Rattle.account_model.specs.LineLaws.{EditsAreOfRecords}
 use Rattle.account_model.proofs.KeptIds.{KeepIds, numbers_of}
-use Rattle.ids_apart.specs.Holders.{has_number, shares_uid_by, shares_gid_by}
+use Rattle.ids_apart.specs.Holders.{range_has, shares_uid_by, shares_gid_by}
 use Rattle.ids_apart.proofs.HolderEdits.{AddsNone, EditsMeetNoMore, kept-add-none, none-meets}
 use Rattle.ids_apart.proofs.Keys.{has_key}
 
@@ -43,9 +43,9 @@ pub record KeepsApart (tool : Tool) (request : Request) (files : Files) (script 
   pub gids : (gid : ℕ) → shares_gid_by tool gid request ≡ false
       → TableStays group_format (has_key gid_key gid) files.group script.group
   pub subuids : (number : ℕ)
-      → TableStays subid_format (has_number number) files.subuid script.subuid
+      → TableStays subid_format (range_has number) files.subuid script.subuid
   pub subgids : (number : ℕ)
-      → TableStays subid_format (has_number number) files.subgid script.subgid
+      → TableStays subid_format (range_has number) files.subgid script.subgid
 
 -- a table, whether it stands or not
 pub stays-table :
@@ -87,7 +87,7 @@ few-table format test bytes edits add =
 same-numbers :
     (number : ℕ) (range other : SubidRecord)
     → numbers_of range ≡ numbers_of other
-    → has_number number range ≡ has_number number other
+    → range_has number range ≡ range_has number other
 same-numbers number range other same = ap (λ (numbers : ℕ × ℕ).
     nat_le numbers.0 number && nat_le number (numbers.0 + numbers.1 - 1)) same
 
@@ -103,10 +103,10 @@ kept-apart {files = files} {script = script} keep = record {
   gids = λ gid shares. few-table group_format (has_key gid_key gid) files.group script.group
       (kept-add-none group_format (has_key gid_key gid) gid_key
       (λ group other same. ap (λ id. id == gid) same) script.group keep.group);
-  subuids = λ n. few-table subid_format (has_number n) files.subuid script.subuid
-      (kept-add-none subid_format (has_number n) numbers_of (same-numbers n) script.subuid
+  subuids = λ n. few-table subid_format (range_has n) files.subuid script.subuid
+      (kept-add-none subid_format (range_has n) numbers_of (same-numbers n) script.subuid
       keep.subuid);
-  subgids = λ n. few-table subid_format (has_number n) files.subgid script.subgid
-      (kept-add-none subid_format (has_number n) numbers_of (same-numbers n) script.subgid
+  subgids = λ n. few-table subid_format (range_has n) files.subgid script.subgid
+      (kept-add-none subid_format (range_has n) numbers_of (same-numbers n) script.subgid
       keep.subgid);
 }

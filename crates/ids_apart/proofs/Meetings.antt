@@ -17,8 +17,8 @@ use Rattle.account_model.specs.Records.{last_id, subid_format}
 use Rattle.account_model.specs.Request.{Request, has_option}
 use Rattle.account_model.specs.Tables.{group_records, passwd_records, subgid_records, subuid_records, table_records}
 use Rattle.account_model.proofs.HeldLaws.{subid-holds}
-use Rattle.ids_apart.specs.Apart.{AreApart, GidsAreDistinct, SubgidsAreApart, SubuidsAreApart, UidsAreDistinct}
-use Rattle.ids_apart.specs.Holders.{gid_holders, has_number, shares_gid, shares_uid, subgid_holders, subuid_holders, uid_holders}
+use Rattle.ids_apart.specs.Apart.{ShareNoNumber, GidsAreDistinct, SubgidsAreApart, SubuidsAreApart, UidsAreDistinct}
+use Rattle.ids_apart.specs.Holders.{gid_holders, range_has, shares_gid, shares_uid, subgid_holders, subuid_holders, uid_holders}
 use Rattle.ids_apart.specs.Laws.{AddsNoHolder, DeedsAddNoHolders, DeedsKeepIdsApart, IsKept, NoneDoes, ShareNoIds, SharesNoId}
 use Rattle.ids_apart.proofs.Counts.{AtMostOne, at-most-one, count-more, count-none}
 use Rattle.ids_apart.proofs.Keys.{has_key}
@@ -183,11 +183,11 @@ table-some (Some bytes) = lines-some (lines_of bytes) (lines_of-are bytes).apart
 -- ranges that are apart have no number in common
 pub ranges-few :
     (rs : List SubidRecord)
-    → AllPairs AreApart rs
+    → AllPairs ShareNoNumber rs
     → (number : ℕ)
-    → count_by (has_number number) rs ≤ 1
-ranges-few rs apart number = apart-few (has_number number) rs
-    (each-then AreApart (NotBoth (has_number number)) (λ r. ⊤) rs
+    → count_by (range_has number) rs ≤ 1
+ranges-few rs apart number = apart-few (range_has number) rs
+    (each-then ShareNoNumber (NotBoth (range_has number)) (λ r. ⊤) rs
     (λ r s any other are has also.
     let one = number-in number r has
     in let two = number-in number s also
@@ -195,15 +195,15 @@ ranges-few rs apart number = apart-few (has_number number) rs
       begins_before = omega (arith, one.1, two.0);
       ends_behind = omega (arith, one.0, two.1);
     }))
-    (no-more rs) (pairs-each AreApart rs apart))
+    (no-more rs) (pairs-each ShareNoNumber rs apart))
 
 -- and ranges of which each number is in one at most are apart: the greater of two firsts is in both that meet
 met-number :
     (r s : SubidRecord)
     → HasSome r
     → HasSome s
-    → ((number : ℕ) → NotBoth (has_number number) r s)
-    → AreApart r s
+    → ((number : ℕ) → NotBoth (range_has number) r s)
+    → ShareNoNumber r s
 met-number r s some also apart meeting =
     let before : s.first ≤ last_id r = meeting.begins_before
     in let behind : r.first ≤ last_id s = meeting.ends_behind
@@ -213,12 +213,12 @@ met-number r s some also apart meeting =
 
 pub few-ranges :
     (bytes : Option (List ℕ))
-    → ((number : ℕ) → count_by (has_number number) (table_records subid_format bytes) ≤ 1)
-    → AllPairs AreApart (table_records subid_format bytes)
-few-ranges bytes few = each-pairs AreApart (table_records subid_format bytes)
-    (each-then (λ r s. (number : ℕ) → NotBoth (has_number number) r s) AreApart HasSome
+    → ((number : ℕ) → count_by (range_has number) (table_records subid_format bytes) ≤ 1)
+    → AllPairs ShareNoNumber (table_records subid_format bytes)
+few-ranges bytes few = each-pairs ShareNoNumber (table_records subid_format bytes)
+    (each-then (λ r s. (number : ℕ) → NotBoth (range_has number) r s) ShareNoNumber HasSome
     (table_records subid_format bytes) met-number (table-some bytes)
-    (each-few has_number (table_records subid_format bytes) few))
+    (each-few range_has (table_records subid_format bytes) few))
 
 -- ---- The claim
 

@@ -1,4 +1,4 @@
--- The numbers of ranges: what `has_number` says (`number-in`, `has-number`), and that a range which meets none has no number
+-- The numbers of ranges: what `range_has` says (`number-in`, `has-number`), and that a range which meets none has no number
 -- of theirs (`unmet-count`).
 use Rattle.std.proofs.Common.{◌≡◌, ℕ, ◌≤◌, Bool, true, false, List, refl, arith}
 use Rattle.std.specs.Prelude.{count_by, nat_le}
@@ -7,14 +7,14 @@ use Rattle.std.proofs.lemmas.Bool.{and_parts, leb-true, le-leb}
 use Rattle.account_model.specs.declared.records.SubidRecord.{SubidRecord}
 use Rattle.account_model.specs.Records.{last_id}
 use Rattle.account_model.specs.FreeRange.{Meeting}
-use Rattle.ids_apart.specs.Holders.{has_number}
+use Rattle.ids_apart.specs.Holders.{range_has}
 use Rattle.ids_apart.proofs.Counts.{count-none}
 use Rattle.ids_apart.proofs.Pairs.{all-then}
 
 -- a number of a range is one from its first to its last
 pub number-in :
     (number : ℕ) (r : SubidRecord)
-    → has_number number r ≡ true
+    → range_has number r ≡ true
     → (r.first ≤ number) × (number ≤ last_id r)
 number-in number r has =
     let parts = and_parts (nat_le r.first number) (nat_le number (last_id r)) has
@@ -25,14 +25,14 @@ pub has-number :
     (number : ℕ) (r : SubidRecord)
     → r.first ≤ number
     → number ≤ last_id r
-    → has_number number r ≡ true
+    → range_has number r ≡ true
 has-number number r low high =
     rw (le-leb r.first number low, le-leb number (last_id r) high) refl
 
 -- a range that doesn't meet others has no number of theirs
 unmet-by :
     (number first last : ℕ) (r : SubidRecord) (has : Bool)
-    → has_number number r ≡ has
+    → range_has number r ≡ has
     → first ≤ number
     → number ≤ last
     → (Meeting first last r → ⊥)
@@ -51,7 +51,7 @@ pub unmet-count :
     → first ≤ number
     → number ≤ last
     → AllByRecursion (λ r. Meeting first last r → ⊥) rs
-    → count_by (has_number number) rs ≡ 0
-unmet-count number first last rs low high apart = count-none (has_number number) rs
-    (all-then (λ r. Meeting first last r → ⊥) (λ r. has_number number r ≡ false) rs
-    (λ r none. unmet-by number first last r (has_number number r) refl low high none) apart)
+    → count_by (range_has number) rs ≡ 0
+unmet-count number first last rs low high apart = count-none (range_has number) rs
+    (all-then (λ r. Meeting first last r → ⊥) (λ r. range_has number r ≡ false) rs
+    (λ r none. unmet-by number first last r (range_has number r) refl low high none) apart)

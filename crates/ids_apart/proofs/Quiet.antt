@@ -16,7 +16,7 @@ use Rattle.account_model.specs.Hashes.{elsewhere, lacks_shadow, make_shadow, dem
 use Rattle.account_model.specs.Users.{find_user, group_named}
 use Rattle.account_model.proofs.ComposedScripts.{IsComposed, either-holds, some-holds}
 use Rattle.account_model.proofs.ListLaws.{all-append}
-use Rattle.ids_apart.specs.Holders.{has_number}
+use Rattle.ids_apart.specs.Holders.{range_has}
 use Rattle.ids_apart.proofs.HolderEdits.{AddsNone}
 use Rattle.ids_apart.proofs.Keys.{KeepsKeys, where-keys}
 use Rattle.ids_apart.proofs.Kept.{uid_key, gid_key}
@@ -64,9 +64,9 @@ pub leaves-none :
     (edits : List (Edit SubidRecord))
     → edits ≡ []
     → (number : ℕ)
-    → AllByRecursion (AddsNone subid_format (has_number number)) edits
+    → AllByRecursion (AddsNone subid_format (range_has number)) edits
 leaves-none edits none number =
-    subst (AllByRecursion (AddsNone subid_format (has_number number))) (sym none) tt
+    subst (AllByRecursion (AddsNone subid_format (range_has number))) (sym none) tt
 
 -- ---- Members
 

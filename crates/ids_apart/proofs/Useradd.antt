@@ -27,12 +27,12 @@ use Rattle.account_model.specs.Values.{given_uid}
 use Rattle.account_model.specs.Request.{Request, has_option, operand}
 use Rattle.account_model.specs.Refusals.{refuse_if}
 use Rattle.account_model.specs.NewAccount.{kind_of, settings_for, free_uid, free_gid, new_group, add_group}
-use Rattle.account_model.specs.NewRanges.{Subordinate, subordinate_uids, subordinate_gids, may_have_ranges, is_allotted, free_start, new_range, allotment, allotted}
+use Rattle.account_model.specs.NewRanges.{Subordinate, subordinate_uids, subordinate_gids, may_have_ranges, is_allotted, free_start, asked_range, allotment, allotted}
 use Rattle.account_model.specs.SubidOwner.{is_owned}
 use Rattle.account_model.specs.Useradd.{makes_group, new_uid, gid_beside, own_gid, primary_gid, used_uid, useradd_checks, useradd_conflicts, new_user, new_shadow, plan_of, add_own_group, join_groups, useradd_script, useradd_under, useradd}
 use Rattle.account_model.proofs.FreeRangeLaws.{free_range-is}
 use Rattle.account_model.proofs.ListLaws.{all-append}
-use Rattle.ids_apart.specs.Holders.{has_number, is_given, shares_uid_by}
+use Rattle.ids_apart.specs.Holders.{range_has, gives_id, shares_uid_by}
 use Rattle.ids_apart.proofs.Counts.{push-meets}
 use Rattle.ids_apart.proofs.HolderEdits.{AddsNone, EditsMeetNoMore, behind-meets, none-meets}
 use Rattle.ids_apart.proofs.Keys.{KeepsKeys, all-keys-keep, has_key}
@@ -52,16 +52,16 @@ start-stays :
     (number : ℕ) (request : Request) (ids : Subordinate) (start : Option ℕ)
     → 0 < ids.count
     → free_start ids ≡ start
-    → EditsMeetNoMore subid_format (has_number number) ids.records
+    → EditsMeetNoMore subid_format (range_has number) ids.records
     (allotted request (elim start [ None ↦ Full | Some first ↦ Range first ids.count ]))
 start-stays number request ids None some found =
-    none-meets subid_format (has_number number) [] tt ids.records
+    none-meets subid_format (range_has number) [] tt ids.records
 start-stays number request ids (Some start) some found =
     let free = subst
     (λ choice. IsFreeRange ids.minimum ids.maximum ids.count ids.records choice) found
     (free_range-is ids.minimum ids.maximum ids.count some ids.records)
-    in push-meets (has_number number) ids.records (new_range request start ids.count)
-    (λ has. let is = number-in number (new_range request start ids.count) has
+    in push-meets (range_has number) ids.records (asked_range request start ids.count)
+    (λ has. let is = number-in number (asked_range request start ids.count) has
     in unmet-count number start (start + ids.count - 1) ids.records is.0 is.1 free.member.apart)
 
 -- a count that isn't 0
@@ -73,11 +73,11 @@ some-count (suc n) e = omega arith
 allotted-by :
     (number : ℕ) (request : Request) (uid : Option ℕ) (ids : Subordinate) (test : Bool)
     → is_allotted request uid ids ≡ test
-    → EditsMeetNoMore subid_format (has_number number) ids.records (allotted request (if test
+    → EditsMeetNoMore subid_format (range_has number) ids.records (allotted request (if test
     then elim (free_start ids) [ None ↦ Full | Some start ↦ Range start ids.count ]
     else Unwanted))
 allotted-by number request uid ids false is =
-    none-meets subid_format (has_number number) [] tt ids.records
+    none-meets subid_format (range_has number) [] tt ids.records
 allotted-by number request uid ids true is =
     start-stays number request ids (free_start ids)
     (some-count ids.count
@@ -88,7 +88,7 @@ allotted-by number request uid ids true is =
 -- the new range of a table meets none
 allotted-stays :
     (number : ℕ) (request : Request) (uid : Option ℕ) (ids : Subordinate)
-    → EditsMeetNoMore subid_format (has_number number) ids.records
+    → EditsMeetNoMore subid_format (range_has number) ids.records
     (allotted request (allotment request uid ids))
 allotted-stays number request uid ids =
     allotted-by number request uid ids (is_allotted request uid ids) refl
@@ -143,7 +143,7 @@ module _ (request : Request) (files : Files) (settings : List Setting) where
   -- the new UID isn't used, by the one that is given
   uid-by :
       (uid : ℕ) (given : Option ℕ) (with_o : Bool)
-      → (with_o && is_given uid given) ≡ false
+      → (with_o && gives_id uid given) ≡ false
       → (if with_o
       then None
       else option_and_then (λ n. refuse_if (is_used (used_uids files) n) (UidInUse n)) given) ≡ None
@@ -277,15 +277,17 @@ module _ (request : Request) (files : Files) (settings : List Setting) (day uid 
         (add-groups id (makes_group request settings)
         (λ makes has. subst (λ n. is_used (used_gids files) n ≡ false) (eqb-true gid id has)
         (unused_gid makes)));
-    subuids = λ n. stays-table subid_format (has_number n) files.subuid
+    subuids = λ n. stays-table subid_format (range_has n) files.subuid
         (own.subuid ++ (join.subuid ++ (allotted request plan.subuid ++ [])))
-        (subst (EditsMeetNoMore subid_format (has_number n) (subordinate_uids files settings).records)
+        (subst
+        (EditsMeetNoMore subid_format (range_has n) (subordinate_uids files settings).records)
         (sym (ranges-behind own.subuid join.subuid (allotted request plan.subuid)
         own-ranges.subuid (join-quiet request files).ranges.subuid))
         (allotted-stays n request plan.uid (subordinate_uids files settings)));
-    subgids = λ n. stays-table subid_format (has_number n) files.subgid
+    subgids = λ n. stays-table subid_format (range_has n) files.subgid
         (own.subgid ++ (join.subgid ++ (allotted request plan.subgid ++ [])))
-        (subst (EditsMeetNoMore subid_format (has_number n) (subordinate_gids files settings).records)
+        (subst
+        (EditsMeetNoMore subid_format (range_has n) (subordinate_gids files settings).records)
         (sym (ranges-behind own.subgid join.subgid (allotted request plan.subgid)
         own-ranges.subgid (join-quiet request files).ranges.subgid))
         (allotted-stays n request plan.uid (subordinate_gids files settings)));

@@ -29,7 +29,7 @@ use Rattle.account_model.specs.Usermod.{changed_user, changed_group, sets_passwd
 use Rattle.account_model.proofs.SameLaws.{passwd-tells}
 use Rattle.account_model.proofs.UsermodRangeScripts.{values-ordered, added-ordered}
 use Rattle.account_model.proofs.ListLaws.{all-append, all-if}
-use Rattle.ids_apart.specs.Holders.{has_number, is_given}
+use Rattle.ids_apart.specs.Holders.{range_has, gives_id}
 use Rattle.account_model.proofs.ComposedScripts.{all-hold, either-holds}
 use Rattle.ids_apart.proofs.HolderEdits.{AddsNone, EditsMeetNoMore, none-meets}
 use Rattle.ids_apart.proofs.Keys.{has_key, each-keep, where-keep, all-keys-keep}
@@ -133,7 +133,7 @@ module _ (request : Request) (files : Files) where
   users-by :
       (id : ℕ) (sets : Bool) (given : Option ℕ)
       → given_uid request ≡ given
-      → (has_option (codes "o") request && is_given id given) ≡ false
+      → (has_option (codes "o") request && gives_id id given) ≡ false
       → option_and_then (λ uid. refuse_if (is_uid_taken request files uid) (UidInUse uid)) given
       ≡ None
       → first_multiple passwd_format (passwd_edits sets) (passwd_records files) ≡ None
@@ -198,13 +198,13 @@ usermod-apart request files day none multiple written_uids written_gids =
       gids = λ gid shares. few-table group_format (has_key gid_key gid) files.group
           (usermod request files day).script.group
           (kept-groups request files gid);
-      subuids = λ n. subst (TableStays subid_format (has_number n) files.subuid) (sym uids)
+      subuids = λ n. subst (TableStays subid_format (range_has n) files.subuid) (sym uids)
           (ranges-stay n Subuid owner (subuid_change request files) files.subuid
           (values-ordered (values_of (codes "V") request))
           (added-ordered files.subuid owner (codes "V") (codes "v") request)
           (subst (AllByRecursion (IsWrittenEdit subid_format)) uids written_uids)
           passed.1.1.1.1.1.1.0);
-      subgids = λ n. subst (TableStays subid_format (has_number n) files.subgid) (sym gids)
+      subgids = λ n. subst (TableStays subid_format (range_has n) files.subgid) (sym gids)
           (ranges-stay n Subgid owner (subgid_change request files) files.subgid
           (values-ordered (values_of (codes "W") request))
           (added-ordered files.subgid owner (codes "W") (codes "w") request)

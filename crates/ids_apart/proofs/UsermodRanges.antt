@@ -21,7 +21,7 @@ use Rattle.account_model.proofs.FreeRangeLaws.{apart-is}
 use Rattle.account_model.proofs.SameLaws.{subid-tells}
 use Rattle.account_model.proofs.EditLines.{edited-lines, table-edited}
 use Rattle.account_model.proofs.UsermodRangeScripts.{IsOrdered, before-all}
-use Rattle.ids_apart.specs.Holders.{has_number}
+use Rattle.ids_apart.specs.Holders.{range_has}
 use Rattle.ids_apart.proofs.Counts.{cond-le, cond-two, count-becomes, count-more, push-meets}
 use Rattle.ids_apart.proofs.HolderEdits.{AddsNone, EditsMeetNoMore, before-meets, each-adds-none}
 use Rattle.ids_apart.proofs.Kept.{TableStays}
@@ -32,16 +32,16 @@ use Rattle.ids_apart.proofs.Numbers.{has-number, number-in, unmet-count}
 -- a range has its numbers, whoever owns it
 renamed-has :
     (number : ℕ) (name : List ℕ) (r : SubidRecord) (renames : Bool)
-    → has_number number (if renames then record r { owner = name } else r) ≡ true
-    → has_number number r ≡ true
+    → range_has number (if renames then record r { owner = name } else r) ≡ true
+    → range_has number r ≡ true
 renamed-has number name r true has = has
 renamed-has number name r false has = has
 
 -- the owner field follows the name
 rename-keeps :
     (number : ℕ) (owner : RangeOwner)
-    → AddsNone subid_format (has_number number) (rename_owner owner)
-rename-keeps number owner = each-adds-none subid_format (has_number number)
+    → AddsNone subid_format (range_has number) (rename_owner owner)
+rename-keeps number owner = each-adds-none subid_format (range_has number)
     (λ r. if is_named subid_format owner.old_name r then record r { owner = owner.new_name } else r)
     (λ r. renamed-has number owner.new_name r (is_named subid_format owner.old_name r))
 
@@ -62,8 +62,8 @@ module _ (number first last : ℕ) (r : SubidRecord) where
   -- a number of the part below is one of the range, before the first that goes
   below-has :
       nat_lt r.first first ≡ true
-      → has_number number below ≡ true
-      → (has_number number r ≡ true) × (number < first)
+      → range_has number below ≡ true
+      → (range_has number r ≡ true) × (number < first)
   below-has before has =
       let less : r.first < first = ltb-true r.first first before
       in let is = number-in number below has
@@ -74,8 +74,8 @@ module _ (number first last : ℕ) (r : SubidRecord) where
   -- a number of the part above is one of the range, behind the last that goes
   above-has :
       nat_lt last (last_id r) ≡ true
-      → has_number number above ≡ true
-      → (has_number number r ≡ true) × (last < number)
+      → range_has number above ≡ true
+      → (range_has number r ≡ true) × (last < number)
   above-has behind has =
       let less : last < last_id r = ltb-true last (last_id r) behind
       in let is = number-in number above has
@@ -90,28 +90,28 @@ module _ (number first last : ℕ) (r : SubidRecord) where
       → first ≤ last
       → nat_lt r.first first ≡ before
       → nat_lt last (last_id r) ≡ behind
-      → count_by (has_number number)
+      → count_by (range_has number)
       ((if before then below ∷ [] else []) ++ (if behind then above ∷ [] else []))
-      ≤ cond (has_number number r) 1 0
+      ≤ cond (range_has number r) 1 0
   left-count false false order is also = omega arith
   left-count true false order is also =
       omega (
         arith,
-        count-more (has_number number) below [],
-        cond-le (has_number number below) (has_number number r) (λ has. (below-has is has).0),
+        count-more (range_has number) below [],
+        cond-le (range_has number below) (range_has number r) (λ has. (below-has is has).0),
       )
   left-count false true order is also =
       omega (
         arith,
-        count-more (has_number number) above [],
-        cond-le (has_number number above) (has_number number r) (λ has. (above-has also has).0),
+        count-more (range_has number) above [],
+        cond-le (range_has number above) (range_has number r) (λ has. (above-has also has).0),
       )
   left-count true true order is also =
       omega (
         arith,
-        count-more (has_number number) below (above ∷ []),
-        count-more (has_number number) above [],
-        cond-two (has_number number below) (has_number number above) (has_number number r)
+        count-more (range_has number) below (above ∷ []),
+        count-more (range_has number) above [],
+        cond-two (range_has number below) (range_has number above) (range_has number r)
             (λ has. (below-has is has).0) (λ has. (above-has also has).0)
             (λ has too. apart (below-has is has).1 (above-has also too).1),
       )
@@ -123,19 +123,19 @@ module _ (number first last : ℕ) (r : SubidRecord) where
 cut-count :
     (number : ℕ) (ids : IdRange) (r : SubidRecord) (owned : Bool)
     → ids.first ≤ ids.last
-    → count_by (has_number number)
+    → count_by (range_has number)
     (if owned then left_without ids.first ids.last r else r ∷ [])
-    ≤ cond (has_number number r) 1 0
+    ≤ cond (range_has number r) 1 0
 cut-count number ids r true order = left-count number ids.first ids.last r
     (nat_lt r.first ids.first) (nat_lt ids.last (last_id r)) order refl refl
-cut-count number ids r false order = omega (arith, count-more (has_number number) r [])
+cut-count number ids r false order = omega (arith, count-more (range_has number) r [])
 
 -- a range that is cut gives no number to one more
 cut-keeps :
     (number : ℕ) (owner : RangeOwner) (ids : IdRange)
     → ids.first ≤ ids.last
-    → AddsNone subid_format (has_number number) (cut_range owner ids)
-cut-keeps number owner ids order rs = count-becomes (has_number number)
+    → AddsNone subid_format (range_has number) (cut_range owner ids)
+cut-keeps number owner ids order rs = count-becomes (range_has number)
     (λ r. if is_owned owner.new_name owner.uid r then left_without ids.first ids.last r else r ∷ [])
     (λ r. cut-count number ids r (is_owned owner.new_name owner.uid r) order) rs
 
@@ -143,7 +143,7 @@ cut-keeps number owner ids order rs = count-becomes (has_number number)
 cuts-keep :
     (number : ℕ) (owner : RangeOwner) (ranges : List IdRange)
     → AllByRecursion IsOrdered ranges
-    → AllByRecursion (AddsNone subid_format (has_number number)) (map (cut_range owner) ranges)
+    → AllByRecursion (AddsNone subid_format (range_has number)) (map (cut_range owner) ranges)
 cuts-keep number owner [] all = tt
 cuts-keep number owner (ids ∷ ranges) all =
     (cut-keeps number owner ids all.0.ordered, cuts-keep number owner ranges all.1)
@@ -206,10 +206,10 @@ added-meets :
     (number : ℕ) (owner : RangeOwner) (ids : IdRange) (rs : List SubidRecord)
     → ids.first ≤ ids.last
     → list_any (meets ids.first ids.last) rs ≡ false
-    → count_by (has_number number) (rs ++ added_record owner ids ∷ [])
-    ≤ max 1 (count_by (has_number number) rs)
+    → count_by (range_has number) (rs ++ added_record owner ids ∷ [])
+    ≤ max 1 (count_by (range_has number) rs)
 added-meets number owner ids rs order none =
-    push-meets (has_number number) rs (added_record owner ids) (λ has.
+    push-meets (range_has number) rs (added_record owner ids) (λ has.
     let is = number-in number (added_record owner ids) has
     in let high : number ≤ ids.first + (ids.last + 1 - ids.first) - 1 = is.1
     in unmet-count number ids.first ids.last rs is.0 (omega (arith, high, order))
@@ -232,7 +232,7 @@ adds-stay :
     → AllByRecursion IsOrdered added
     → AllByRecursion (IsWrittenEdit subid_format) (map (add_range owner) added)
     → first_meeting table owner added lines ≡ None
-    → EditsMeetNoMore subid_format (has_number number) (records_of subid_format lines)
+    → EditsMeetNoMore subid_format (range_has number) (records_of subid_format lines)
     (map (add_range owner) added)
 adds-stay number table owner [] lines order written none = omega arith
 adds-stay number table owner (ids ∷ added) lines order written none =
@@ -244,7 +244,7 @@ adds-stay number table owner (ids ∷ added) lines order written none =
     in let one = added-meets number owner ids (records_of subid_format lines) order.0.ordered
     (none-meets ids 1 lines parts.0)
     in let rest = subst (λ (rs : List SubidRecord).
-    EditsMeetNoMore subid_format (has_number number) rs (map (add_range owner) added)) same
+    EditsMeetNoMore subid_format (range_has number) rs (map (add_range owner) added)) same
     (adds-stay number table owner added more order.1 written.1 parts.1)
     in omega (arith, one, rest)
 
@@ -282,7 +282,7 @@ pub ranges-stay :
     → AllByRecursion IsOrdered change.added
     → AllByRecursion (IsWrittenEdit subid_format) (range_edits owner change)
     → meeting_in table owner change bytes ≡ None
-    → TableStays subid_format (has_number number) bytes (range_edits owner change)
+    → TableStays subid_format (range_has number) bytes (range_edits owner change)
 ranges-stay number table owner change None removed added written none = tt
 ranges-stay number table owner change (Some text) removed added written none =
     let before = edits_before_adding owner change
@@ -290,9 +290,9 @@ ranges-stay number table owner change (Some text) removed added written none =
     in let records = records_of subid_format (lines_of text)
     in let same = records-after before text
     (all-front (IsWrittenEdit subid_format) before adds written)
-    in before-meets subid_format (has_number number) before adds records
-    (before-all (AddsNone subid_format (has_number number)) owner change (rename-keeps number owner)
+    in before-meets subid_format (range_has number) before adds records
+    (before-all (AddsNone subid_format (range_has number)) owner change (rename-keeps number owner)
     (cuts-keep number owner change.removed removed))
-    (subst (λ (rs : List SubidRecord). EditsMeetNoMore subid_format (has_number number) rs adds) same
+    (subst (λ (rs : List SubidRecord). EditsMeetNoMore subid_format (range_has number) rs adds) same
     (adds-stay number table owner change.added (edited_by subid_format before (lines_of text)) added
     (all-back (IsWrittenEdit subid_format) before adds written) none))

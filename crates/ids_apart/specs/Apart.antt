@@ -16,13 +16,13 @@ abbrev pub GidsAreDistinct : Files → Type 0
 GidsAreDistinct files = AllPairs (λ group other. group.gid ≢ other.gid) (group_records files)
 
 -- two ranges have no number in common, whoever owns them
-abbrev pub AreApart : SubidRecord → SubidRecord → Type 0
-AreApart range other = Meeting range.first (last_id range) other → ⊥
+abbrev pub ShareNoNumber : SubidRecord → SubidRecord → Type 0
+ShareNoNumber range other = Meeting range.first (last_id range) other → ⊥
 
 -- each two ranges of subordinate UIDs are apart
 abbrev pub SubuidsAreApart : Files → Type 0
-SubuidsAreApart files = AllPairs AreApart (subuid_records files)
+SubuidsAreApart files = AllPairs ShareNoNumber (subuid_records files)
 
 -- each two ranges of subordinate GIDs are apart
 abbrev pub SubgidsAreApart : Files → Type 0
-SubgidsAreApart files = AllPairs AreApart (subgid_records files)
+SubgidsAreApart files = AllPairs ShareNoNumber (subgid_records files)

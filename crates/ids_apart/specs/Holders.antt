@@ -19,21 +19,21 @@ abbrev pub gid_holders : ℕ → Files → ℕ
 gid_holders gid files = count_by (λ group. group.gid == gid) (group_records files)
 
 -- whether the range has the number
-abbrev pub has_number : ℕ → SubidRecord → Bool
-has_number number r = nat_le r.first number && nat_le number (last_id r)
+abbrev pub range_has : ℕ → SubidRecord → Bool
+range_has number r = nat_le r.first number && nat_le number (last_id r)
 
 -- how many ranges of subordinate UIDs have the number
 abbrev pub subuid_holders : ℕ → Files → ℕ
-subuid_holders number files = count_by (has_number number) (subuid_records files)
+subuid_holders number files = count_by (range_has number) (subuid_records files)
 
 -- how many ranges of subordinate GIDs have the number
 abbrev pub subgid_holders : ℕ → Files → ℕ
-subgid_holders number files = count_by (has_number number) (subgid_records files)
+subgid_holders number files = count_by (range_has number) (subgid_records files)
 
 -- whether the value that is given is this ID
-abbrev pub is_given : ℕ → Option ℕ → Bool
-is_given id None = false
-is_given id (Some given) = given == id
+abbrev pub gives_id : ℕ → Option ℕ → Bool
+gives_id id None = false
+gives_id id (Some given) = given == id
 
 -- the tools that may give a user a UID that is in use (useradd(8), usermod(8), `-o`)
 abbrev pub gives_uids : Tool → Bool
@@ -50,12 +50,12 @@ gives_gids tool = false
 -- the tool is asked for the UID with `-o`
 abbrev pub shares_uid_by : Tool → ℕ → Request → Bool
 shares_uid_by tool uid request =
-    gives_uids tool && (has_option (codes "o") request && is_given uid (given_uid request))
+    gives_uids tool && (has_option (codes "o") request && gives_id uid (given_uid request))
 
 -- the tool is asked for the GID with `-o`
 abbrev pub shares_gid_by : Tool → ℕ → Request → Bool
 shares_gid_by tool gid request =
-    gives_gids tool && (has_option (codes "o") request && is_given gid (given_gid request))
+    gives_gids tool && (has_option (codes "o") request && gives_id gid (given_gid request))
 
 -- the command asks for the UID with `-o`
 abbrev pub shares_uid : ℕ → Request → Bool

@@ -23,7 +23,7 @@ use Rattle.acct_text.specs.Numbers.{number_of, number_within, number_fault}
 use Rattle.acct_text.specs.Pieces.{Lacks}
 use Rattle.acct_text.specs.Tables.{all_tables, table_name, table_place}
 use Rattle.acct_text.proofs.NumberLaws.{number_of-within, number-is}
-use Rattle.intent_file.specs.Cursor.{Takes, ReadsAs, HasLeadingZero, IsBetween, comes_behind, word_part}
+use Rattle.intent_file.specs.Cursor.{TakesValue, ReadsAs, HasLeadingZero, IsBetween, comes_behind, word_part}
 use Rattle.intent_file.specs.Intent.{NewTable}
 use Rattle.intent_file.specs.Parts.{BeginsWith, BeginsWithNone}
 use Rattle.intent_file.proofs.PartsLemmas.{word_cut, decimal_lacks}
@@ -45,7 +45,7 @@ module _ {Value : Type 0} (end : ℕ) (MayStand : Value → Type 0) (part : Valu
       (word new : Bytes) (result : Option Value)
       → BeginsWith (Lacks end) (word_part end) old word new
       → ReadsAs MayStand part word result
-      → Takes MayStand ended old result new
+      → TakesValue MayStand ended old result new
   word_read word new (Some value) begins reads = record {
     stands = reads.0;
     whole = begins.whole ∙ ap (λ w. word_part end w ++ new) reads.1;

@@ -13,7 +13,7 @@ use Rattle.intent_file.specs.declared.cursor.Header.{Header}
 use Rattle.intent_file.specs.Cursor.{TakesTables}
 use Rattle.intent_file.specs.Intent.{NewTable, Intended, table_part, table_parts, end_part, is_in_order, is_within_limit, is_lock_number, ReadsIntent, spelled_version, spelled_number, spelled_count, after_header, spelled_table}
 use Rattle.intent_file.specs.Laws.{EachTextReadsOrFails}
-use Rattle.intent_file.specs.Parts.{BeginsWith, BeginsWithNone, AreListed, Headed, HeadedByNone, IsHeader, IsNext, header_part, FirstFault, no_header, no_table}
+use Rattle.intent_file.specs.Parts.{BeginsWith, BeginsWithNone, AreListed, Headed, HeadedByNone, IsHeader, MayBeListed, header_part, FirstFault, no_header, no_table}
 use Rattle.intent_file.proofs.IntentLemmas.{front, end-fault, reads-intent}
 use Rattle.intent_file.proofs.PartsLemmas.{lock-small, within-small, listed-more, listed-none}
 use Rattle.intent_file.proofs.SpelledLemmas.{spelled_version-part, spelled_number-part, spelled_count-part, after_header-part, spelled_table-part}
@@ -199,20 +199,20 @@ module _ (before : List NewTable) where
   may_be_next next = is_in_order (before ++ next ∷ []) && is_within_limit (next ∷ [])
 
   -- one that passes the test may be
-  next_stands : (next : NewTable) → may_be_next next ≡ true → IsNext before next
+  next_stands : (next : NewTable) → may_be_next next ≡ true → MayBeListed before next
   next_stands next passes =
       let parts =
       and_parts (is_in_order (before ++ next ∷ [])) (is_within_limit (next ∷ [])) passes in
       record { in_order = parts.0; within_limit = parts.1 }
 
   -- one that may be listed passes the test
-  next_tested : (next : NewTable) → IsNext before next → may_be_next next ≡ true
+  next_tested : (next : NewTable) → MayBeListed before next → may_be_next next ≡ true
   next_tested next is_next = rw (is_next.in_order, is_next.within_limit) refl
 
   -- bytes that begin with its part spell it
   spelled_next-part :
       (next : NewTable) (rest : Bytes)
-      → IsNext before next
+      → MayBeListed before next
       → spelled_table (table_part next ++ rest) ≡ next
   spelled_next-part next rest is_next =
       spelled_table-part next rest (within-small next is_next.within_limit)
@@ -254,12 +254,12 @@ module _ (bytes behind : Bytes) (head : Header)
   with_some zero tables rest listed sizes =
       with_all tables rest (record { counted = omega arith; listed = listed })
   with_some (suc left) tables rest listed sizes =
-      by_next (decides (IsNext tables) table_part spelled_table (may_be_next tables)
+      by_next (decides (MayBeListed tables) table_part spelled_table (may_be_next tables)
       (next_stands tables) (next_tested tables) (spelled_next-part tables) rest)
       (λ more begun sum. with_some left (tables ++ more.0 ∷ []) more.1 begun sum)
     where
       by_next :
-          Begins (IsNext tables) table_part rest
+          Begins (MayBeListed tables) table_part rest
           → ((more : NewTable × Bytes)
           → BeginsWith AreListed table_parts behind (tables ++ more.0 ∷ []) more.1
           → length (tables ++ more.0 ∷ []) + left ≡ head.count

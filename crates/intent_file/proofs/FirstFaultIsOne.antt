@@ -10,7 +10,7 @@ use Rattle.acct_text.specs.Limits.{table_limit}
 use Rattle.acct_text.specs.Tables.{table_place}
 use Rattle.intent_file.specs.Intent.{NewTable, Intended, table_part, table_parts, end_part, body, is_in_order, is_within_limit, ReadsIntent}
 use Rattle.intent_file.specs.Laws.{FirstFaultIsOne}
-use Rattle.intent_file.specs.Parts.{BeginsWith, BeginsWithNone, IsNext, Front, FirstFault, no_header, no_table, no_end}
+use Rattle.intent_file.specs.Parts.{BeginsWith, BeginsWithNone, MayBeListed, Front, FirstFault, no_header, no_table, no_end}
 use Rattle.intent_file.proofs.PartsLemmas.{header_cut, table_cut}
 use Rattle.intent_file.proofs.Reading.{allowed_parts, at_most_six}
 
@@ -128,7 +128,8 @@ goes_on :
     (bytes : Bytes) (front other : Front bytes) (next : NewTable) (news : List NewTable)
     → other.tables ≡ front.tables ++ next ∷ news
     → front.rest ≡ table_parts (next ∷ news) ++ other.rest
-    → BeginsWith (IsNext front.tables) table_part front.rest next (table_parts news ++ other.rest)
+    → BeginsWith (MayBeListed front.tables) table_part front.rest next
+    (table_parts news ++ other.rest)
 goes_on bytes front other next news lists rests = record {
   stands = record {
     in_order = next_in_order front.tables next news
@@ -143,7 +144,7 @@ goes_on bytes front other next news lists rests = record {
 -- a front without a next table has as many tables as any other, or more
 no_more :
     (bytes : Bytes) (front other : Front bytes)
-    → BeginsWithNone (IsNext front.tables) table_part front.rest
+    → BeginsWithNone (MayBeListed front.tables) table_part front.rest
     → length other.tables ≤ length front.tables
 no_more bytes front other none = by_order (fronts bytes front other).tables
   where

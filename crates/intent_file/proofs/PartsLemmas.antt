@@ -23,7 +23,7 @@ use Rattle.intent_file.specs.declared.Version.TheVariants.{One, Two}
 use Rattle.intent_file.specs.declared.cursor.Header.{Header}
 use Rattle.intent_file.specs.Cursor.{word_part, number_part, version_part, count_part, name_part}
 use Rattle.intent_file.specs.Intent.{NewTable, table_part, table_parts, is_within_limit, is_lock_number, table_of_name, version_number, version_of}
-use Rattle.intent_file.specs.Parts.{BeginsWith, AreListed, IsHeader, IsNext, header_part}
+use Rattle.intent_file.specs.Parts.{BeginsWith, AreListed, IsHeader, MayBeListed, header_part}
 
 -- two parts and what follows them are the same
 pub record SameCut {Value : Type 0} (value other : Value) (rest tail : Bytes) : Type 0 where
@@ -320,7 +320,7 @@ within-more (first ∷ tables) next within within' =
 pub listed-more :
     (bytes rest behind : Bytes) (tables : List NewTable) (next : NewTable)
     → BeginsWith AreListed table_parts bytes tables rest
-    → BeginsWith (IsNext tables) table_part rest next behind
+    → BeginsWith (MayBeListed tables) table_part rest next behind
     → BeginsWith AreListed table_parts bytes (tables ++ next ∷ []) behind
 listed-more bytes rest behind tables next listed begins = record {
   stands = record {

@@ -18,7 +18,7 @@ use Rattle.intent_file.specs.declared.Version.TheVariants.{One, Two}
 use Rattle.intent_file.specs.declared.cursor.Header.{Header}
 use Rattle.intent_file.specs.Cursor.{TakesTables, LacksTable, IsBetween, comes_behind, word_part, number_part, version_part, count_part, name_part}
 use Rattle.intent_file.specs.Intent.{NewTable, table_part, is_in_order, is_within_limit, is_lock_number, version_number, version_of}
-use Rattle.intent_file.specs.Parts.{BeginsWith, BeginsWithNone, Headed, HeadedByNone, IsNext}
+use Rattle.intent_file.specs.Parts.{BeginsWith, BeginsWithNone, Headed, HeadedByNone, MayBeListed}
 use Rattle.intent_file.proofs.PartsLemmas.{SameCut, within-limit, listed-more, word_cut, number_cut, version_cut, name_cut, bytes_cut, header_words, count_words, table_words, first_word, decimal_lacks, lock-small, within-small}
 
 -- Headers.
@@ -276,7 +276,7 @@ module _ (before : List NewTable) (bytes : Bytes) where
   -- without a name there is no table part
   pub table-no_name :
       BeginsWithNone (λ _. ⊤) name_part bytes
-      → BeginsWithNone (IsNext before) table_part bytes
+      → BeginsWithNone (MayBeListed before) table_part bytes
   table-no_name none next rest begins =
       none next.table _ (record { stands = tt; whole = begins.whole ∙ table_words next rest })
 
@@ -285,7 +285,7 @@ module _ (before : List NewTable) (bytes : Bytes) where
     -- what follows the name of a table part
     after_name :
         (next : NewTable) (rest : Bytes)
-        → BeginsWith (IsNext before) table_part bytes next rest
+        → BeginsWith (MayBeListed before) table_part bytes next rest
         → SameCut table next.table behind_name
         (number_part newline (length next.bytes) ++ (next.bytes ++ newline ∷ rest))
     after_name next rest begins =
@@ -295,7 +295,7 @@ module _ (before : List NewTable) (bytes : Bytes) where
     -- a table that doesn't come behind those before it is no next one
     pub table-not_behind :
         comes_behind table before ≡ false
-        → BeginsWithNone (IsNext before) table_part bytes
+        → BeginsWithNone (MayBeListed before) table_part bytes
     table-not_behind not_behind next rest begins =
         let same = (after_name next rest begins).values in
         true≢false (sym (next-behind before next begins.stands.in_order)
@@ -304,7 +304,7 @@ module _ (before : List NewTable) (bytes : Bytes) where
     -- without a length there is no table part
     pub table-no_length :
         BeginsWithNone (IsBetween 0 table_limit) (number_part newline) behind_name
-        → BeginsWithNone (IsNext before) table_part bytes
+        → BeginsWithNone (MayBeListed before) table_part bytes
     table-no_length none next rest begins = none (length next.bytes) _ (record {
       stands = (omega arith, within-limit next begins.stands.within_limit);
       whole = (after_name next rest begins).rests;
@@ -316,7 +316,7 @@ module _ (before : List NewTable) (bytes : Bytes) where
       -- what follows the line of a table part
       after_length :
           (next : NewTable) (rest : Bytes)
-          → BeginsWith (IsNext before) table_part bytes next rest
+          → BeginsWith (MayBeListed before) table_part bytes next rest
           → SameCut size (length next.bytes) behind_length (next.bytes ++ newline ∷ rest)
       after_length next rest begins =
           let most = begins_length.stands.1 in
@@ -328,7 +328,7 @@ module _ (before : List NewTable) (bytes : Bytes) where
       -- with too few bytes there is no table part
       pub table-no_bytes :
           BeginsWithNone (λ text. length text ≡ size) (λ text. text) behind_length
-          → BeginsWithNone (IsNext before) table_part bytes
+          → BeginsWithNone (MayBeListed before) table_part bytes
       table-no_bytes none next rest begins =
           let cut = after_length next rest begins in
           none next.bytes (newline ∷ rest) (record { stands = sym cut.values; whole = cut.rests })
@@ -339,7 +339,7 @@ module _ (before : List NewTable) (bytes : Bytes) where
         -- without a newline behind the bytes there is no table part
         pub table-no_newline :
             BeginsWithNone {Value = Unit {0}} (λ _. ⊤) (λ _. newline ∷ []) behind_bytes
-            → BeginsWithNone (IsNext before) table_part bytes
+            → BeginsWithNone (MayBeListed before) table_part bytes
         table-no_newline none next rest begins =
             let cut = after_length next rest begins in
             let sizes = begins_bytes.stands ∙ cut.values in
@@ -354,7 +354,7 @@ module _ (before : List NewTable) (bytes : Bytes) where
             → is_in_order before ≡ true
             → comes_behind table before ≡ true
             → BeginsWith {Value = Unit {0}} (λ _. ⊤) (λ _. newline ∷ []) behind_bytes tt rest
-            → BeginsWith (IsNext before) table_part bytes
+            → BeginsWith (MayBeListed before) table_part bytes
             (record { table = table; bytes = text }) rest
         table-stands rest order behind begins_newline =
             let new : NewTable = record { table = table; bytes = text } in record {
@@ -383,7 +383,7 @@ module _ (before : List NewTable) (bytes : Bytes) where
 pub tables-more :
     (old behind new : Bytes) (count : ℕ) (tables : List NewTable) (next : NewTable)
     → TakesTables old count tables behind
-    → BeginsWith (IsNext tables) table_part behind next new
+    → BeginsWith (MayBeListed tables) table_part behind next new
     → TakesTables old (count + 1) (tables ++ next ∷ []) new
 tables-more old behind new count tables next takes begins = record {
   counted = length-append tables (next ∷ []) ∙ ap (λ n. n + 1) takes.counted;
@@ -395,7 +395,7 @@ pub tables-lack :
     (old behind : Bytes) (taken count : ℕ) (tables : List NewTable)
     → TakesTables old taken tables behind
     → taken < count
-    → BeginsWithNone (IsNext tables) table_part behind
+    → BeginsWithNone (MayBeListed tables) table_part behind
     → LacksTable old count (taken + 1)
 tables-lack old behind taken count tables takes fewer none =
     let size = takes.counted in

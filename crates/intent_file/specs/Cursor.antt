@@ -7,14 +7,14 @@ use Rattle.intent_file.specs.declared.IntentFault.{IntentFault}
 use Rattle.intent_file.specs.declared.Version.{Version}
 use Rattle.intent_file.specs.declared.IntentFault.TheVariants.{Part, Memory}
 use Rattle.intent_file.specs.Intent.{NewTable, table_part, table_parts, total_word, version_number}
-use Rattle.intent_file.specs.Parts.{BeginsWith, BeginsWithNone, AreListed, IsNext}
+use Rattle.intent_file.specs.Parts.{BeginsWith, BeginsWithNone, AreListed, MayBeListed}
 
 -- the cursor took the value whose part its bytes began with, and the rest is left to it;
 -- or none, and they begin with the part of no value that may stand there
-abbrev pub Takes :
+abbrev pub TakesValue :
     {Value : Type 0} → (Value → Type 0) → (Value → Bytes)
     → Bytes → Option Value → Bytes → Type 0
-Takes {Value} MayStand part old result new =
+TakesValue {Value} MayStand part old result new =
     MatchOption result
     (BeginsWithNone MayStand part old)
     (λ value. BeginsWith MayStand part old value new)
@@ -88,7 +88,7 @@ pub record LacksTable (bytes : Bytes) (count part : ℕ) : Type 0 where
   pub rest : Bytes
   pub listed : BeginsWith AreListed table_parts bytes tables rest
   pub fewer : length tables < count
-  pub none : BeginsWithNone (IsNext tables) table_part rest
+  pub none : BeginsWithNone (MayBeListed tables) table_part rest
   pub part_is : part ≡ length tables + 1
 
 -- what a fault tells of bytes that were to begin with so many tables

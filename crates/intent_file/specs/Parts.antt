@@ -44,7 +44,7 @@ pub record AreListed (tables : List NewTable) : Type 0 where
   pub within_limit : is_within_limit tables ≡ true
 
 -- the table may be listed behind these
-pub record IsNext (tables : List NewTable) (next : NewTable) : Type 0 where
+pub record MayBeListed (tables : List NewTable) (next : NewTable) : Type 0 where
   pub in_order : is_in_order (tables ++ next ∷ []) ≡ true
   pub within_limit : is_within_limit (next ∷ []) ≡ true
 
@@ -66,7 +66,7 @@ pub data FirstFault (bytes : Bytes) : ℕ → Type 0 where
   no_table :
       (front : Front bytes)
       → length front.tables < front.head.count
-      → BeginsWithNone (IsNext front.tables) table_part front.rest
+      → BeginsWithNone (MayBeListed front.tables) table_part front.rest
       → FirstFault bytes (length front.tables + 1)
   no_end :
       (front : Front bytes)

@@ -7,8 +7,8 @@ ghost use Rattle.acct_text.specs.Bytes.{newline, zero_digit};
 ghost use Rattle.acct_text.specs.Pieces.{Lacks};
 ghost use Rattle.intent_file.specs.Intent.{table_part, end_part, is_in_order, version_of};
 ghost use Rattle.acct_text.specs.Tables.{table_name, all_tables};
-ghost use Rattle.intent_file.specs.Cursor.{Takes, TakesBefore, TakesTables, TellsLack, ReadsAs, HasLeadingZero, IsBetween, HasLength, word_part, number_part, name_part, version_part, count_part, comes_behind};
-ghost use Rattle.intent_file.specs.Parts.{IsHeader, IsNext, header_part};
+ghost use Rattle.intent_file.specs.Cursor.{TakesValue, TakesBefore, TakesTables, TellsLack, ReadsAs, HasLeadingZero, IsBetween, HasLength, word_part, number_part, name_part, version_part, count_part, comes_behind};
+ghost use Rattle.intent_file.specs.Parts.{IsHeader, MayBeListed, header_part};
 
 use crate::{IntentFault, Version};
 use acct_outside::GREATEST_LOCK;
@@ -78,7 +78,7 @@ impl<'text> Cursor<'text> {
 
     // Takes the bytes before the first `end`, and the end.
     fn word(&mut self, end: u8) -> Option<&'text [u8]>
-        ensures { Takes (Lacks end) (word_part end) self.old (option_copied result) self.new }
+        ensures { TakesValue (Lacks end) (word_part end) self.old (option_copied result) self.new }
     {
         let cut = cut_once(end, self.rest)?;
         self.rest = cut.behind;
@@ -87,7 +87,7 @@ impl<'text> Cursor<'text> {
 
     // Takes these bytes.
     fn literal(&mut self, text: &[u8]) -> Option<()>
-        ensures { Takes (λ _. ⊤) (λ _. text.now) self.old result self.new }
+        ensures { TakesValue (λ _. ⊤) (λ _. text.now) self.old result self.new }
     {
         self.rest = self.rest.strip_prefix(text)?;
         Some(())
@@ -95,7 +95,8 @@ impl<'text> Cursor<'text> {
 
     // Takes so many bytes.
     fn bytes(&mut self, size: usize) -> Option<&'text [u8]>
-        ensures { Takes (HasLength size) (λ bytes. bytes) self.old (option_copied result) self.new }
+        ensures { TakesValue (HasLength size) (λ bytes. bytes) self.old (option_copied result)
+            self.new }
     {
         let (bytes, rest) = self.rest.split_at_checked(size)?;
         self.rest = rest;
@@ -105,7 +106,7 @@ impl<'text> Cursor<'text> {
     // Takes a number within the bounds, in decimal without leading zeros, and the end behind it.
     fn number(&mut self, end: u8, least: u64, greatest: u64) -> Option<u64>
         requires { end < zero_digit }
-        ensures { Takes (IsBetween least greatest) (number_part end) self.old result self.new }
+        ensures { TakesValue (IsBetween least greatest) (number_part end) self.old result self.new }
     {
         let digits = self.word(end)?;
         number_written(digits, least, greatest)
@@ -113,7 +114,7 @@ impl<'text> Cursor<'text> {
 
     // Takes the name of a table, and a blank.
     fn table(&mut self) -> Option<Tab>
-        ensures { Takes (λ _. ⊤) name_part self.old result self.new }
+        ensures { TakesValue (λ _. ⊤) name_part self.old result self.new }
     {
         let name = self.word(b' ')?;
         table_named(name)
@@ -121,7 +122,7 @@ impl<'text> Cursor<'text> {
 
     // Takes the first words of a header, up to its version.
     fn version(&mut self) -> Option<Version>
-        ensures { Takes (λ _. ⊤) version_part self.old result self.new }
+        ensures { TakesValue (λ _. ⊤) version_part self.old result self.new }
     {
         self.literal(b"accounts-intent ")?;
         let number = self.number(b' ', 1, 2)?;
@@ -170,7 +171,7 @@ impl<'text> Cursor<'text> {
     /// Takes the part of a table that may stand behind these.
     pub fn next_table(&mut self, before: &[NewTable]) -> Option<TablePart<'text>>
         requires { is_in_order before.now ≡ true }
-        ensures { Takes (IsNext before.now) table_part self.old result self.new }
+        ensures { TakesValue (MayBeListed before.now) table_part self.old result self.new }
     {
         let table = self.table()?;
         if !comes_behind(table, before) {

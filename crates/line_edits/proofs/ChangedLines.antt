@@ -10,7 +10,7 @@ use Rattle.account_model.specs.Format.{Format}
 use Rattle.account_model.specs.Edits.{becomes, line_becomes}
 use Rattle.account_model.specs.RecordEdits.{TellsSame}
 use Rattle.account_model.specs.Written.{IsWritten}
-use Rattle.line_edits.specs.Naming.{Leaves}
+use Rattle.line_edits.specs.Naming.{LeavesIt}
 
 module _ {R : Type 0} (format : Format R) where
   -- a line of which the record becomes others
@@ -88,7 +88,7 @@ module _ {R : Type 0} (format : Format R) (f : R → List R) (line : Line) where
       ∙ stays format line r (format.same r r) ((tells r r).1 refl)
 
   -- a line that the change leaves
-  pub left-line : TellsSame format → Leaves format f line.text → becomes format f line ≡ line ∷ []
+  pub left-line : TellsSame format → LeavesIt format f line.text → becomes format f line ≡ line ∷ []
   left-line tells left = left-line-by (format.read line.text) refl tells left
 
   -- other text stays

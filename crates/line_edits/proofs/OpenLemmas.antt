@@ -14,7 +14,7 @@ use Rattle.account_model.specs.Format.{Format}
 use Rattle.account_model.specs.RecordEdits.{TellsSame}
 use Rattle.acct_tables.specs.Marks.{IsFromMarks, IsWithoutAll}
 use Rattle.acct_tables.proofs.FrontLines.{front-taken}
-use Rattle.line_edits.specs.Naming.{AreMarksOf, Leaves}
+use Rattle.line_edits.specs.Naming.{AreMarksOf, LeavesIt}
 use Rattle.line_edits.specs.OpenLines.{IsOpenFrom}
 use Rattle.line_edits.proofs.ChangedLines.{left-line}
 
@@ -26,7 +26,7 @@ module _ {R : Type 0} (format : Format R) (tells : TellsSame format) (f : R → 
   -- lines that are left
   front-stays :
       (lines : List Line)
-      → AllByRecursion (λ line. Leaves format f line.text) lines
+      → AllByRecursion (λ line. LeavesIt format f line.text) lines
       → flat_map (becomes format f) lines ≡ lines
   front-stays [] left = refl
   front-stays (line ∷ lines) left =
@@ -38,7 +38,7 @@ module _ {R : Type 0} (format : Format R) (tells : TellsSame format) (f : R → 
       (marks : List (List ℕ)) (lines : List Line)
       → AreMarksOf format f marks
       → AllByRecursion (λ line. IsWithoutAll marks line.text) lines
-      → AllByRecursion (λ line. Leaves format f line.text) lines
+      → AllByRecursion (λ line. LeavesIt format f line.text) lines
   marked-left marks [] are without = tt
   marked-left marks (line ∷ lines) are without =
       (are line.text without.0, marked-left marks lines are without.1)

@@ -10,7 +10,7 @@ use Rattle.acct_text.proofs.LinesLaws.{lines_of-are}
 use Rattle.account_model.specs.declared.fault.LineFault.{LineFault}
 use Rattle.account_model.specs.Format.{Format}
 use Rattle.account_model.specs.LineFormat.{IsLineFormat}
-use Rattle.line_edits.specs.WrittenLines.{AreWritten, IsWrittenRead}
+use Rattle.line_edits.specs.WrittenLines.{AreWrittenLines, IsWrittenRead}
 
 module _ {R : Type 0} (format : Format R) (fault : List ℕ → Option LineFault)
     (is : IsLineFormat format fault) where
@@ -27,11 +27,11 @@ module _ {R : Type 0} (format : Format R) (fault : List ℕ → Option LineFault
   all-written :
       (lines : List Line)
       → AllByRecursion (λ line. Lacks newline line.text) lines
-      → AreWritten format lines
+      → AreWrittenLines format lines
   all-written [] apart = tt
   all-written (line ∷ lines) apart =
       (read-written line.text (format.read line.text) apart.0 refl, all-written lines apart.1)
 
   -- and those of the lines of a file
-  pub lines-written : (text : List ℕ) → AreWritten format (lines_of text)
+  pub lines-written : (text : List ℕ) → AreWrittenLines format (lines_of text)
   lines-written text = all-written (lines_of text) (lines_of-are text).apart

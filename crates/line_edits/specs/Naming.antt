@@ -8,12 +8,12 @@ use Rattle.line_edits.specs.declared.changed_names.ChangedNames.{ChangedNames}
 use Rattle.line_edits.specs.declared.changed_names.ChangedNames.TheVariants.{One, Each}
 
 -- f leaves the record that the text is, if it is one
-abbrev pub Leaves : {R : Type 0} → Format R → (R → List R) → List ℕ → Type 0
-Leaves {R = R} format f text = (r : R) → format.read text ≡ Some r → f r ≡ r ∷ []
+abbrev pub LeavesIt : {R : Type 0} → Format R → (R → List R) → List ℕ → Type 0
+LeavesIt {R = R} format f text = (r : R) → format.read text ≡ Some r → f r ≡ r ∷ []
 
 -- f leaves each record whose line is without all of these marks
 abbrev pub AreMarksOf : {R : Type 0} → Format R → (R → List R) → List (List ℕ) → Type 0
-AreMarksOf format f marks = (line : List ℕ) → IsWithoutAll marks line → Leaves format f line
+AreMarksOf format f marks = (line : List ℕ) → IsWithoutAll marks line → LeavesIt format f line
 
 -- a name field that is given this, if anything, leaves the name
 abbrev pub leaves_name : List ℕ → Option (List ℕ) → Bool

@@ -15,5 +15,5 @@ abbrev pub IsWrittenLine : {R : Type 0} → Format R → Line → Type 0
 IsWrittenLine format line = IsWrittenRead format (format.read line.text)
 
 -- so can all records of the lines
-abbrev pub AreWritten : {R : Type 0} → Format R → List Line → Type 0
-AreWritten format lines = AllByRecursion (IsWrittenLine format) lines
+abbrev pub AreWrittenLines : {R : Type 0} → Format R → List Line → Type 0
+AreWrittenLines format lines = AllByRecursion (IsWrittenLine format) lines

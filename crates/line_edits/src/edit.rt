@@ -2,7 +2,7 @@
 ghost use Rattle.std.specs.Prelude.{◌≡◌, true, List, [], None, IfOk, IfSome};
 ghost use Rattle.account_model.specs.Written.{IsWritten};
 ghost use Rattle.acct_tables.specs.Marks.{marks_in};
-ghost use Rattle.line_edits.specs.Naming.{AreMarksOf, Leaves, TouchesOnly, names_in};
+ghost use Rattle.line_edits.specs.Naming.{AreMarksOf, LeavesIt, TouchesOnly, names_in};
 ghost use Rattle.line_edits.specs.Rewriting.{IsRewritten};
 ghost use Rattle.line_edits.specs.SeenEdits.{records_in};
 
@@ -76,7 +76,7 @@ pub trait EditedRecord: TableRecord {
     /// Whether the change surely leaves the record that the line is, if it is one, by what can be seen
     /// without memory.
     fn leaves(change: &Self::Change, line: &[u8]) -> bool
-        ensures { result ≡ true → Leaves Self.format (becomes change.now) line.now };
+        ensures { result ≡ true → LeavesIt Self.format (becomes change.now) line.now };
 
     /// Whether both changes surely make the same of each record.
     fn are_same(_one: &Self::Change, _other: &Self::Change) -> bool

@@ -28,7 +28,7 @@ use Rattle.suite_rules.specs.Listing.{watched_with}
 use Rattle.acct_outside.proofs.NameLemmas.{name-is, name-same, table-is}
 use Rattle.suite_rules.proofs.Names.{table-turned, fails-apart}
 use Rattle.lock_steps.specs.declared.gathered.IntentFound.{IntentFound}
-use Rattle.lock_steps.specs.Gathered.{AreSmall, AreUnread, Gathered, HasFound, TellsIntent, content_at, defs_with, files_with, awaits, first_gathered, found_as, gathered_at, held_of, inputs, is_in, is_known, is_large, is_readable, known_of, lacks, large_with, listed_at, names_behind, with_content, with_found, with_listed}
+use Rattle.lock_steps.specs.Gathered.{AreSmall, AreUnread, Gathered, HasFound, TellsIntent, content_at, defs_with, files_with_content, awaits, first_gathered, found_as, gathered_at, held_bytes, inputs, is_in, is_known, is_large, is_readable, known_of, lacks, large_with, listed_at, names_behind, with_content, with_found, with_listed}
 use Rattle.acct_text.proofs.FilesLemmas.{seen-there, with_table-same, with_table-other}
 
 -- the test takes either first
@@ -178,7 +178,7 @@ large-elsewhere name other found_too_large large differs = in-more name other la
 -- of another table the same bytes are kept
 files-elsewhere : (name : Name) (table : Tab) (content : Option Bytes) (files : Files) →
     same_name (Table table) name ≡ false →
-    table_of (files_with name content files) table ≡ table_of files table
+    table_of (files_with_content name content files) table ≡ table_of files table
 files-elsewhere (Table other) table content files differs =
     with_table-other other table content files differs
 files-elsewhere name table content files differs = refl
@@ -198,8 +198,8 @@ kept-elsewhere name other found gathered differs = ap₂ found_as
     same_content : (other : Name) → same_name other name ≡ false →
         content_at (with_found name found gathered) other ≡ content_at gathered other
     same_content (Table table) differs =
-        files-elsewhere name table (held_of found) gathered.files differs
-    same_content Defs differs = defs-elsewhere name (held_of found) gathered.defs differs
+        files-elsewhere name table (held_bytes found) gathered.files differs
+    same_content Defs differs = defs-elsewhere name (held_bytes found) gathered.defs differs
     same_content other differs = refl
 
 -- of the name that was read just what was found is kept
@@ -285,7 +285,7 @@ read-found wanted watched gathered name names found unread held = record {
   at_intent = rw (fails-apart is_input Intent name refl unread.0) held.at_intent;
   told = held.told;
   known = λ table bytes is.
-      files-elsewhere name table (held_of found) gathered.files (other-table table bytes is)
+      files-elsewhere name table (held_bytes found) gathered.files (other-table table bytes is)
       ∙ held.known table bytes is;
   taken = λ table bytes is. (
     large-elsewhere name (Table table) found gathered.large (other-table table bytes is)

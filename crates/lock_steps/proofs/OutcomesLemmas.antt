@@ -36,7 +36,7 @@ use Rattle.lock_steps.specs.declared.claiming.Confirmed.TheVariants.{Keeper, Los
 use Rattle.lock_steps.specs.declared.keeping.Ended.{Ended}
 use Rattle.lock_steps.specs.States.{Lister, Asker, Maker, Overtaken, Kept}
 use Rattle.lock_steps.specs.Stands.{HasNoLock, HasLooked, HasReadHeld, HasJudged, HasMade, WasOvertaken, Keeps, KnowsAnything, HasStagedFree, HasFreed, StandsTold, StandsConfirmed}
-use Rattle.lock_steps.specs.Outcomes.{Looks, Reads, Asks, Claims, Confirms, as_it_came, cleaned_once, freeing_of, the_end}
+use Rattle.lock_steps.specs.Outcomes.{Looks, Reads, AsksAlive, Claims, Confirms, as_it_came, cleaned_once, freeing_of, the_end}
 use Rattle.lock_steps.proofs.StandsLemmas.{looked, read-free, read-held, told-dead, made, kept, overtaken, cleaned, staged-free, freed}
 
 -- a step that tells a failure only where its call did counts it as the call does
@@ -135,7 +135,7 @@ module _ (before now : Moment) (narrows : Narrows before.admits now.admits) (tok
   -- a verdict
   pub ask-leads :
       (asking : Asker) (answer : Result Verdict FolderFault) (result : Result Lister LockEnd)
-      → Asks asking answer result
+      → AsksAlive asking answer result
       → StandsIn before token (HasReadHeld asking)
       → Tells before now token (asks asking.asked) answer
       → IfOk result (λ judged. StandsIn now token (HasJudged judged))

@@ -41,7 +41,7 @@ use Rattle.lock_steps.specs.States.{Lister}
 use Rattle.lock_steps.specs.Stands.{HasJudged}
 use Rattle.lock_steps.specs.NextCall.{IsNextCall, next_or}
 use Rattle.lock_steps.specs.Gathered.{AreUnread, HasFound, TellsIntent, listed_at}
-use Rattle.lock_steps.specs.Watching.{Gatherer, Report, ConfirmsFound, HasGathered, HasReported, ReadsIntentFirst, ReadsOn, begun_reading, gathering_call, next_name, read_on, report_of}
+use Rattle.lock_steps.specs.Watching.{Gatherer, Report, ConfirmsFound, HasGathered, HasReported, ReadsIntentFirst, GathersOn, begun_reading, gathering_call, next_left, gathered_on, report_of}
 use Rattle.lock_steps.proofs.GatheredLemmas.{begun-found, read-found}
 
 -- what is read once the greatest lock is judged is watched
@@ -87,8 +87,8 @@ begins watcher wanted found intent told stood held = record {
 goes-on : (reading : Gatherer) (left : List Name) → reading.left ≡ left → 0 < length left →
     AreUnread reading.gathered.large reading.left → (found : Found) (stood : Standing) →
     HasGathered reading stood →
-    HasGathered (read_on reading found)
-    (standing_step (reads (next_name reading)) (done found) stood)
+    HasGathered (gathered_on reading found)
+    (standing_step (reads (next_left reading)) (done found) stood)
 goes-on reading [] is some unread found stood held = absurd (omega (arith, some))
 goes-on reading (name ∷ names) is some unread found stood held = rw is (record {
   owns = held.owns;
@@ -158,15 +158,15 @@ module _ (before now : Moment) (narrows : Narrows before.admits now.admits) (tok
       (result : Result Gatherer FolderFault)
       → 0 < length reading.left
       → AreUnread reading.gathered.large reading.left
-      → ReadsOn reading answer result
+      → GathersOn reading answer result
       → StandsIn before token (HasGathered reading)
-      → Tells before now token (reads (next_name reading)) answer
+      → Tells before now token (reads (next_left reading)) answer
       → IfOk result (λ more. StandsIn now token (HasGathered more))
   read-leads reading (Ok found) (Ok more) some unread shown stands tells =
-      stands-done before.admits now.admits narrows token (reads (next_name reading)) tt
+      stands-done before.admits now.admits narrows token (reads (next_left reading)) tt
       (HasGathered reading) (HasGathered more) found
       (λ stood held. subst (λ (one : Gatherer).
-      HasGathered one (standing_step (reads (next_name reading)) (done found) stood)) (sym shown)
+      HasGathered one (standing_step (reads (next_left reading)) (done found) stood)) (sym shown)
       (goes-on reading reading.left refl some unread found stood held))
       before.told now.told stands tells
   read-leads reading (Err fault) (Ok more) some unread shown stands tells = absurd shown

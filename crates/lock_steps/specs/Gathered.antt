@@ -137,14 +137,14 @@ abbrev pub names_behind : Gathered → List Name
 names_behind gathered = filter (awaits gathered) inputs
 
 -- the bytes that are kept of what was found
-abbrev pub held_of : Found → Option Bytes
-held_of (found_bytes bytes) = Some bytes
-held_of _ = None
+abbrev pub held_bytes : Found → Option Bytes
+held_bytes (found_bytes bytes) = Some bytes
+held_bytes _ = None
 
 -- the tables with these bytes for the name, where that is a table's
-abbrev pub files_with : Name → Option Bytes → Files → Files
-files_with (Table table) content files = with_table table content files
-files_with _ content files = files
+abbrev pub files_with_content : Name → Option Bytes → Files → Files
+files_with_content (Table table) content files = with_table table content files
+files_with_content _ content files = files
 
 -- login.defs with these bytes for the name, where that is its
 abbrev pub defs_with : Name → Option Bytes → Option Bytes → Option Bytes
@@ -159,13 +159,13 @@ large_with name _ large = large
 -- these bytes are kept for a table or login.defs, None where it has none
 abbrev pub with_content : Name → Option Bytes → Gathered → Gathered
 with_content name content gathered = record gathered {
-  files = files_with name content gathered.files;
+  files = files_with_content name content gathered.files;
   defs = defs_with name content gathered.defs;
 }
 
 -- this was found at a table or at login.defs
 abbrev pub with_found : Name → Found → Gathered → Gathered
-with_found name found gathered = with_content name (held_of found)
+with_found name found gathered = with_content name (held_bytes found)
     (record gathered { large = large_with name found gathered.large })
 
 -- The names that are left to read are tables and login.defs, none of them twice, and none is told too

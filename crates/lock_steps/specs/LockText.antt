@@ -16,7 +16,7 @@ pub record IsDamaged (text : Bytes) : Type 0 where
   pub not_held : (token : Token) → IsHeldBy text token → ⊥
 
 -- the text says this
-abbrev pub Says : Bytes → LockText → Type 0
-Says text Free = text ≡ free_text
-Says text (Held token) = IsHeldBy text token
-Says text Damaged = IsDamaged text
+abbrev pub TextSays : Bytes → LockText → Type 0
+TextSays text Free = text ≡ free_text
+TextSays text (Held token) = IsHeldBy text token
+TextSays text Damaged = IsDamaged text

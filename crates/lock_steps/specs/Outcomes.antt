@@ -54,12 +54,12 @@ Reads seen (Err fault) (Err (Folder came)) = came ≡ fault
 Reads _ _ _ = ⊥
 
 -- a verdict: dead leads on, alive refuses with the token that was asked for
-abbrev pub Asks : Asker → Result Verdict FolderFault → Result Lister LockEnd → Type 0
-Asks asking (Ok Dead) (Ok judged) =
+abbrev pub AsksAlive : Asker → Result Verdict FolderFault → Result Lister LockEnd → Type 0
+AsksAlive asking (Ok Dead) (Ok judged) =
     judged ≡ record { token = asking.token; greatest = asking.greatest }
-Asks asking (Ok Alive) (Err (Refused (Held token))) = token ≡ asking.asked
-Asks asking (Err fault) (Err (Folder came)) = came ≡ fault
-Asks _ _ _ = ⊥
+AsksAlive asking (Ok Alive) (Err (Refused (Held token))) = token ≡ asking.asked
+AsksAlive asking (Err fault) (Err (Folder came)) = came ≡ fault
+AsksAlive _ _ _ = ⊥
 
 -- a create of the next number: done leads on, and where the lock stands it was raced
 abbrev pub Claims : Lister → Result Created FolderFault → Result Maker LockEnd → Type 0

@@ -44,8 +44,8 @@ abbrev pub gathering_left : Gatherer → ℕ
 gathering_left reading = length reading.left
 
 -- the first of the names that are left; the last of them is login.defs
-abbrev pub next_name : Gatherer → Name
-next_name reading = get_or reading.left 0 Defs
+abbrev pub next_left : Gatherer → Name
+next_left reading = get_or reading.left 0 Defs
 
 -- it reads the first of the names that are left, and then lists the locks again
 abbrev pub gathering_call : Gatherer → Call
@@ -64,9 +64,9 @@ begun_reading watcher wanted intent tables =
     }
 
 -- once this is found at the first of the names that are left
-abbrev pub read_on : Gatherer → Found → Gatherer
-read_on reading found = record reading {
-  gathered = with_found (next_name reading) found reading.gathered;
+abbrev pub gathered_on : Gatherer → Found → Gatherer
+gathered_on reading found = record reading {
+  gathered = with_found (next_left reading) found reading.gathered;
   left = drop 1 reading.left;
 }
 
@@ -90,11 +90,11 @@ ReadsIntentFirst _ _ _ _ = ⊥
 
 -- a read of the next name leads on, whatever it finds; of one that is too large the name is noted, and
 -- memory may run out for that
-abbrev pub ReadsOn : Gatherer → Result Found FolderFault → Result Gatherer FolderFault → Type 0
-ReadsOn reading (Ok found) (Ok more) = more ≡ read_on reading found
-ReadsOn reading (Ok found_too_large) (Err Memory) = ⊤
-ReadsOn reading (Err fault) (Err came) = came ≡ fault
-ReadsOn _ _ _ = ⊥
+abbrev pub GathersOn : Gatherer → Result Found FolderFault → Result Gatherer FolderFault → Type 0
+GathersOn reading (Ok found) (Ok more) = more ≡ gathered_on reading found
+GathersOn reading (Ok found_too_large) (Err Memory) = ⊤
+GathersOn reading (Err fault) (Err came) = came ≡ fault
+GathersOn _ _ _ = ⊥
 
 -- a second listing: what was found is confirmed where the same lock is the greatest, and only there
 abbrev pub ConfirmsFound : Gatherer → Result (List ℕ) FolderFault → Result Report LockEnd → Type 0

@@ -13,7 +13,7 @@ ghost use Rattle.suite_rules.specs.Standing.{Standing};
 ghost use Rattle.suite_rules.specs.Steps.{StandsIn};
 ghost use Rattle.lock_steps.specs.Stands.{HasNoLock, HasLooked, HasReadHeld, HasJudged, HoldsTold};
 ghost use Rattle.lock_steps.specs.NextCall.{IsCallWhere, IsNextCall};
-ghost use Rattle.lock_steps.specs.Outcomes.{folder_failed, Looks, Reads, ReadsText, Asks};
+ghost use Rattle.lock_steps.specs.Outcomes.{folder_failed, Looks, Reads, ReadsText, AsksAlive};
 ghost use Rattle.lock_steps.specs.Steps.{SeeksLock};
 
 use crate::claiming::Judged;
@@ -215,7 +215,7 @@ impl Asking {
     pub fn ask<F: Folder>(self, folder: &mut F) -> Result<Judged, LockEnd>
         requires { StandsIn (F.moment folder.old) self.token (HasReadHeld self) }
         ensures { SeeksLock (F.moment folder.old) (F.moment folder.new) self.token (asks self.asked)
-            (Asks self) HasJudged result }
+            (AsksAlive self) HasJudged result }
     {
         let verdict = folder.verdict(&self.seen.holder.token, &self.asked);
         self.after_verdict(verdict)
@@ -223,7 +223,7 @@ impl Asking {
 
     // What the verdict leads to.
     fn after_verdict(self, verdict: Result<Verdict, FolderFault>) -> Result<Judged, LockEnd>
-        ensures shown { Asks self verdict result }
+        ensures shown { AsksAlive self verdict result }
         ensures failed { IsErrOf result folder_failed → IsErrOf verdict FolderFault.Failed }
     {
         match verdict? {

@@ -1,7 +1,7 @@
 // The text of a lock, read.
 ghost use Rattle.std.specs.Prelude.{◌≡◌, ◌≢◌, IfOk, MatchOption};
 ghost use Rattle.acct_outside.specs.Tokens.{Token as TokenText, held_text};
-ghost use Rattle.lock_steps.specs.LockText.{Says};
+ghost use Rattle.lock_steps.specs.LockText.{TextSays};
 
 use acct_outside::Token;
 use std::alloc::{AllocError, Global};
@@ -20,7 +20,7 @@ pub(crate) enum LockText {
 impl LockText {
     /// Reads the text of a lock. The error says that memory ran out for the token.
     pub(crate) fn read(alloc: Global, text: &[u8]) -> Result<Self, AllocError>
-        ensures { IfOk result (Says text.now) }
+        ensures { IfOk result (TextSays text.now) }
     {
         if text == b"free\n".as_slice() {
             return Ok(LockText::Free);

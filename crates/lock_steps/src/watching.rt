@@ -21,7 +21,7 @@ ghost use Rattle.lock_steps.specs.NextCall.{IsNextCall};
 ghost use Rattle.lock_steps.specs.Outcomes.{folder_failed};
 ghost use Rattle.lock_steps.specs.Steps.{SeeksLock};
 ghost use Rattle.lock_steps.specs.Gathered.{AreSmall, AreUnread, is_large};
-ghost use Rattle.lock_steps.specs.Watching.{begun_reading, gathering_call, gathering_left, ConfirmsFound, HasGathered, HasReported, next_name, ReadsIntentFirst, ReadsOn, Watches};
+ghost use Rattle.lock_steps.specs.Watching.{begun_reading, gathering_call, gathering_left, ConfirmsFound, HasGathered, HasReported, next_left, ReadsIntentFirst, GathersOn, Watches};
 
 use crate::gathered::{Gathered, IntentFound};
 use crate::listing::greatest_of;
@@ -224,7 +224,7 @@ impl Reading {
         requires left { 0 < length self.left }
         requires stands { StandsIn (F.moment folder.old) self.token (HasGathered self) }
         ensures { Watches (F.moment folder.old) (F.moment folder.new) self.token
-            (reads (next_name self)) (ReadsOn self) HasGathered result }
+            (reads (next_left self)) (GathersOn self) HasGathered result }
     {
         let found = folder.read(&self.token, self.left[0], TABLE_LIMIT);
         self.after_read(found)
@@ -234,7 +234,7 @@ impl Reading {
     fn after_read(self, found: Result<Found, FolderFault>) -> Result<Reading, FolderFault>
         requires left { 0 < length self.left }
         requires limit { IfOk found (IsWithinLimit table_limit) }
-        ensures shown { ReadsOn self (found_result found) result }
+        ensures shown { GathersOn self (found_result found) result }
         ensures failed { IsErrOf result FolderFault.Failed → IsErrOf found FolderFault.Failed }
     {
         let found = found?;

@@ -5,7 +5,7 @@ use Rattle.std.proofs.Common.{◌≡◌, ℕ, Bool, true, false, List, [], ◌�
 use Rattle.std.specs.Prelude.{Option, bytes_eq, is_some, if◌then◌else◌}
 use Rattle.std.proofs.lemmas.Slice.Eq.{bytes_eq-Decides}
 use Rattle.account_model.specs.declared.settings.Key.{Key}
-use Rattle.account_model.specs.Settings.{Setting, find_key, user_groups_key, allowed_value, allows, is_allowed}
+use Rattle.account_model.specs.Settings.{Setting, find_key, user_groups_key, allowed_value, allows, is_allowed_value}
 use Rattle.login_defs.specs.declared.defs.KeyFault.TheVariants.{UnknownKey, BadNumber}
 use Rattle.login_defs.specs.declared.defs.DefsFault.TheVariants as file
 use Rattle.login_defs.specs.declared.defs.KeyFault.{KeyFault}
@@ -54,7 +54,7 @@ allowed-by value false (Some key) unknown = allowed-value value key (allowed_val
 -- a value is allowed where its setting may stand
 pub allowed-may_stand :
     (word value : List ℕ)
-    → is_allowed word value ≡ may_stand (setting_fault word value)
+    → is_allowed_value word value ≡ may_stand (setting_fault word value)
 allowed-may_stand word value =
     allowed-by value (bytes_eq word user_groups_key) (find_key word) (flag-unknown word)
 

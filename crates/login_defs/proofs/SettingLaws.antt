@@ -16,7 +16,7 @@ use Rattle.login_defs.specs.declared.defs.Defs.{Defs}
 use Rattle.login_defs.specs.declared.values.KeyValue.{KeyValue}
 use Rattle.login_defs.specs.KeyValues.{value_number}
 use Rattle.login_defs.specs.Places.{key_place}
-use Rattle.login_defs.specs.Held.{Adds}
+use Rattle.login_defs.specs.Held.{AddsSetting}
 
 -- the key of a key's name is the key
 named-key : (key : Key) → find_key (key_name key) ≡ Some key
@@ -128,7 +128,7 @@ pub unknown-adds :
     (defs : Defs) (word value : List ℕ)
     → find_key word ≡ None
     → bytes_eq word user_groups_key ≡ false
-    → Adds defs defs (record { key = word; value = value })
+    → AddsSetting defs defs (record { key = word; value = value })
 unknown-adds defs word value none no_flag = λ settings has. record {
   counted = has.counted;
   values = λ key. has.values key ∙ sym (ap (option_and_then (allowed_value key))
@@ -144,7 +144,7 @@ pub flag-adds :
     → bytes_eq word user_groups_key ≡ true
     → new.values ≡ old.values
     → new.user_groups ≡ bytes_eq value (codes "yes")
-    → Adds old new (record { key = word; value = value })
+    → AddsSetting old new (record { key = word; value = value })
 flag-adds old new word value is_flag same flag = λ settings has.
     let setting : Setting = record { key = word; value = value } in
     let word_is = (bytes_eq-Decides word user_groups_key).0 is_flag in
@@ -165,7 +165,7 @@ pub number-adds :
     → key_place key < 17
     → new.values ≡ slice_set old.values (key_place key) (Some held)
     → new.user_groups ≡ old.user_groups
-    → Adds old new (record { key = word; value = value })
+    → AddsSetting old new (record { key = word; value = value })
 number-adds old new word value key held no_flag found allowed place set flag = λ settings has.
     let setting : Setting = record { key = word; value = value } in
     let low : key_place key < length old.values = omega (arith, place, has.counted) in

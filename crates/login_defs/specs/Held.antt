@@ -23,8 +23,8 @@ pub record IsHeld (defs : Defs) : Type 0 where
   pub held : HasSettings defs settings
 
 -- the new hold one setting more, behind those that the old hold
-abbrev pub Adds : Defs → Defs → Setting → Type 0
-Adds old new setting = (settings : List Setting) → HasSettings old settings
+abbrev pub AddsSetting : Defs → Defs → Setting → Type 0
+AddsSetting old new setting = (settings : List Setting) → HasSettings old settings
     → HasSettings new (settings ++ setting ∷ [])
 
 -- a number as a command sees it: nothing is -1
@@ -33,6 +33,6 @@ signed None = negsuc 0
 signed (Some number) = pos number
 
 -- the value is what each list of settings tells that these hold
-abbrev pub Gives : {X : Type 0} → Defs → (List Setting → X) → X → Type 0
-Gives defs told value =
+abbrev pub GivesBySettings : {X : Type 0} → Defs → (List Setting → X) → X → Type 0
+GivesBySettings defs told value =
     (settings : List Setting) → HasSettings defs settings → value ≡ told settings

@@ -3,7 +3,7 @@ ghost use Rattle.std.specs.Prelude.{◌≡◌, ◌≤◌, List, [], length, unwr
 ghost use Rattle.acct_text.specs.Limits.{table_limit};
 ghost use Rattle.account_model.specs.Settings.{Setting, settings_of, bad_line, number as number_of, range as range_of, user_groups, default_value, range_between, one_less as lessened};
 ghost use Rattle.login_defs.specs.Places.{key_place};
-ghost use Rattle.login_defs.specs.Held.{HasSettings, Adds, Gives, held_value, signed};
+ghost use Rattle.login_defs.specs.Held.{HasSettings, AddsSetting, GivesBySettings, held_value, signed};
 ghost use Rattle.login_defs.specs.Faults.{setting_fault, file_fault};
 ghost use Rattle.login_defs.specs.LineSetting.{AddsLine, line_fault};
 ghost use Rattle.std.specs.Result.{result_err};
@@ -81,7 +81,7 @@ impl Defs {
     /// allow the value. At either the settings are as before.
     pub fn with(&mut self, key: &[u8], value: &[u8]) -> Result<(), KeyFault>
         ensures fault { result_err result ≡ setting_fault key.now value.now }
-        ensures set { OnOk result (Adds self.old self.new
+        ensures set { OnOk result (AddsSetting self.old self.new
             (record { key = key.now; value = value.now })) }
         ensures unchanged { OnErr result (self.new ≡ self.old) }
     {
@@ -103,7 +103,7 @@ impl Defs {
     /// -1 stands for an empty number of days, and for SYS_UID_MAX and SYS_GID_MAX below a UID_MIN
     /// or GID_MIN of 0.
     pub fn number(&self, key: Key) -> i64
-        ensures { Gives self.now (λ settings. signed (number_of key settings)) result }
+        ensures { GivesBySettings self.now (λ settings. signed (number_of key settings)) result }
     {
         match self.value(key) {
             Some(number) => i64::from(number),
@@ -113,14 +113,14 @@ impl Defs {
 
     /// Whether useradd(8) makes a group for each user: USERGROUPS_ENAB is `yes`.
     pub fn flag(&self) -> bool
-        ensures { Gives self.now user_groups result }
+        ensures { GivesBySettings self.now user_groups result }
     {
         self.user_groups
     }
 
     /// The least and the greatest ID that may be chosen, and none where the range is empty.
     pub fn range(&self, of: IdSort, kind: Kind) -> Option<(u32, u32)>
-        ensures { Gives self.now (range_of of kind) result }
+        ensures { GivesBySettings self.now (range_of of kind) result }
     {
         match (of, kind) {
             (IdSort::Uid, Kind::Regular) => self.between(Key::UidMin, Key::UidMax),
@@ -132,7 +132,7 @@ impl Defs {
 
     // The numbers of a least and a greatest key, where the one doesn't pass the other.
     fn between(&self, least: Key, greatest: Key) -> Option<(u32, u32)>
-        ensures { Gives self.now
+        ensures { GivesBySettings self.now
             (λ settings. range_between (number_of least settings) (number_of greatest settings))
             result }
     {
@@ -143,14 +143,14 @@ impl Defs {
 
     /// The number of a key, as `number` gives it, and none in place of -1.
     pub fn value(&self, key: Key) -> Option<u32>
-        ensures { Gives self.now (number_of key) result }
+        ensures { GivesBySettings self.now (number_of key) result }
     {
         self.given_or(key, self.default(key))
     }
 
     // The number of a key that isn't given; -1 is none.
     fn default(&self, key: Key) -> Option<u32>
-        ensures { Gives self.now (default_value key) result }
+        ensures { GivesBySettings self.now (default_value key) result }
     {
         match key {
             Key::UidMin | Key::GidMin => Some(1000),

@@ -24,7 +24,7 @@ use Rattle.acct_outside.specs.Moment.{Past}
 use Rattle.acct_outside.specs.Contract.{was_begun, MayAct, WhereTold, TellsCall, TellsEvent, TellsBegin}
 use Rattle.memory_folder.specs.Logged.{with_event}
 use Rattle.memory_folder.specs.NewTokens.{IsFirstUnused}
-use Rattle.memory_folder.specs.Memory.{moment_of, no_others, past_of, Runs, TellsAct, TellsFault}
+use Rattle.memory_folder.specs.Memory.{moment_of, no_others, past_of, HasRunning, TellsAct, TellsFailure}
 use Rattle.memory_folder.specs.declared.memory.MemoryFolder.{MemoryFolder}
 use Rattle.acct_outside.specs.declared.Call.{Call as FolderCall}
 
@@ -204,7 +204,7 @@ pub act_want : (old new : MemoryFolder) (token : Token) (call : FolderCall)
     → TellsAct old new token call result
 act_want old new token call (Ok unit) is same = absurd (cc (is.0))
 act_want old new token call (Err fault) is same =
-    subst (TellsFault old new token (call_of call)) (sym (is.1))
+    subst (TellsFailure old new token (call_of call)) (sym (is.1))
     (told_memory (past_of old) (past_of new) token (call_of call)
     (gives_after token (call_of call)) same)
 
@@ -216,7 +216,7 @@ running-begun faulted runs = refl
 running-begun ended runs = absurd cc
 
 -- a session that runs in a folder in memory may call it
-pub may_act : (folder : MemoryFolder) (token : Token) → Runs folder token
+pub may_act : (folder : MemoryFolder) (token : Token) → HasRunning folder token
     → MayAct (moment_of folder) token
 may_act folder token is = record {
   begun = running-begun (life token (past_of folder).history) is.runs;

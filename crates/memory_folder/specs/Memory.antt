@@ -30,8 +30,8 @@ abbrev pub past_of : MemoryFolder → Past
 past_of folder = past_in folder.log
 
 -- how many calls it had, of those that a plan counts
-abbrev pub calls_of : MemoryFolder → ℕ
-calls_of folder = folder.mishaps.calls
+abbrev pub call_count : MemoryFolder → ℕ
+call_count folder = folder.mishaps.calls
 
 -- how often it has failed
 abbrev pub faults_of : MemoryFolder → ℕ
@@ -55,8 +55,8 @@ abbrev pub NotesIn : MemoryFolder → MemoryFolder → Entry → Type 0
 NotesIn old new entry = Notes (moment_of old) (moment_of new) entry
 
 -- which of its calls are to fail
-abbrev pub plan_of : MemoryFolder → List Mishap
-plan_of folder = folder.mishaps.plan.items
+abbrev pub fault_plan : MemoryFolder → List Mishap
+fault_plan folder = folder.mishaps.plan.items
 
 -- the tokens of outsiders that it tells alive
 abbrev pub alive_of : MemoryFolder → List Token
@@ -69,20 +69,20 @@ TellsIn old new token call result =
     Tells (moment_of old) (moment_of new) token call result
 
 -- the same of a call that gave no answer
-abbrev pub TellsFault : MemoryFolder → MemoryFolder → Token → Call → FolderFault → Type 0
-TellsFault old new token call fault = TellsIn old new token call (Err fault)
+abbrev pub TellsFailure : MemoryFolder → MemoryFolder → Token → Call → FolderFault → Type 0
+TellsFailure old new token call fault = TellsIn old new token call (Err fault)
 
 -- the same of a changing call, which answers nothing but that it was done
 abbrev pub TellsAct : MemoryFolder → MemoryFolder → Token → FolderCall
     → Result (Unit {0}) FolderFault → Type 0
 TellsAct old new token call (Ok unit) =
     past_of new ≡ with_event (call_event token call (Done Empty)) (past_of old)
-TellsAct old new token call (Err fault) = TellsFault old new token (call_of call) fault
+TellsAct old new token call (Err fault) = TellsFailure old new token (call_of call) fault
 
 -- the plan and the tokens told alive stay, and so does the count of calls
 pub record IsUncounted (old new : MemoryFolder) : Type 0 where
-  pub calls : calls_of new ≡ calls_of old
-  pub plan : plan_of new ≡ plan_of old
+  pub calls : call_count new ≡ call_count old
+  pub plan : fault_plan new ≡ fault_plan old
   pub alive : alive_of new ≡ alive_of old
 
 -- the count of faults after a call that gave no answer: it rose by one where the call failed, and is
@@ -94,17 +94,17 @@ pub record CountsFault (old new : MemoryFolder) (fault : FolderFault) : Type 0 w
   pub stays : fault ≡ Memory → faults_of new ≡ faults_of old
 
 -- the call was counted, and its fault where it failed; the plan and the tokens told alive stay
-pub record IsCounted {T : Type 0} (old new : MemoryFolder) (result : Result T FolderFault)
+pub record CountsCall {T : Type 0} (old new : MemoryFolder) (result : Result T FolderFault)
     : Type 0 where
-  pub calls : calls_of new ≡ next_count (calls_of old)
+  pub calls : call_count new ≡ next_count (call_count old)
   pub faults : CountsEach Failed (faults_of old) (faults_of new) result
-  pub plan : plan_of new ≡ plan_of old
+  pub plan : fault_plan new ≡ fault_plan old
   pub alive : alive_of new ≡ alive_of old
 
 -- what the call that was counted last is to do as it fails, None where it isn't to fail
 abbrev pub due_of : MemoryFolder → MemoryFolder → Call → Option CallEffect
 due_of old new call =
-    effect_due (folder_after (past_of old)) call (planned_effect (calls_of new) (plan_of new))
+    effect_due (folder_after (past_of old)) call (planned_effect (call_count new) (fault_plan new))
 
 -- the call failed with this effect, as far as it can have had it
 abbrev pub FailsWith : MemoryFolder → MemoryFolder → Token → Call → CallEffect → Type 0
@@ -125,5 +125,5 @@ FailsAsPlanned old new token call (Err Failed) =
 FailsAsPlanned old new token call (Err Memory) = ⊤
 
 -- the session runs in the folder's history
-pub record Runs (folder : MemoryFolder) (token : Token) : Type 0 where
+pub record HasRunning (folder : MemoryFolder) (token : Token) : Type 0 where
   pub runs : is_running token (past_of folder).history ≡ true

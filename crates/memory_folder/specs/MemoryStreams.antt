@@ -38,8 +38,8 @@ abbrev pub held_of : MemorySink → Bytes
 held_of sink = sink.held
 
 -- the day that each call of the clock gives
-abbrev pub day_of : MemoryClock → ℕ
-day_of clock = clock.day
+abbrev pub clock_day : MemoryClock → ℕ
+clock_day clock = clock.day
 
 -- the day that the clock last gave
 abbrev pub given_of : MemoryClock → Option ℕ
@@ -85,6 +85,6 @@ sink_moment sink = record { holds = Some (held_of sink); faults = sink_faults si
 abbrev pub clock_moment : MemoryClock → ClockMoment
 clock_moment clock = record {
   gave = given_of clock;
-  always = Some (day_of clock);
+  always = Some (clock_day clock);
   faults = clock_faults clock;
 }

@@ -37,7 +37,7 @@ pub struct MemoryFolder {
 impl MemoryFolder {
     ghost use Rattle.acct_outside.specs.Journal.{Settles};
     ghost use Rattle.memory_folder.specs.Logged.{past_in, with_event, folder_after};
-    ghost use Rattle.memory_folder.specs.Memory.{CountsFault, FailsAsPlanned, FailsWith, IsUncounted, Runs, TellsAct, TellsFault, alive_of, calls_of, faults_of, journal_of, past_of, plan_of};
+    ghost use Rattle.memory_folder.specs.Memory.{CountsFault, FailsAsPlanned, FailsWith, IsUncounted, HasRunning, TellsAct, TellsFailure, alive_of, call_count, faults_of, journal_of, past_of, fault_plan};
     ghost use Rattle.memory_folder.specs.NewTokens.{IsFirstUnused, IsUnused};
 
     /// A folder with these files, with tokens of outsiders that it tells alive, and with calls that
@@ -53,8 +53,8 @@ impl MemoryFolder {
             ≡ record { first = folder_with contents.items; history = [] }) }
         ensures first { IfOk result (λ folder. IsFolder (past_of folder).first) }
         ensures faults { IfOk result (λ folder. faults_of folder ≡ 0) }
-        ensures calls { IfOk result (λ folder. calls_of folder ≡ 0) }
-        ensures plan { IfOk result (λ folder. plan_of folder ≡ plan.items) }
+        ensures calls { IfOk result (λ folder. call_count folder ≡ 0) }
+        ensures plan { IfOk result (λ folder. fault_plan folder ≡ plan.items) }
         ensures alive { IfOk result (λ folder. alive_of folder ≡ alive.items) }
         ensures journal { IfOk result (λ folder. journal_of folder ≡ []) }
     {
@@ -87,7 +87,7 @@ impl MemoryFolder {
 
     /// Records that the session died within the call, which did this as far as it can have.
     pub fn die(&mut self, by: &Token, call: Call, effect: Effect) -> Result<(), AllocError>
-        requires running { Runs self.old by.now }
+        requires running { HasRunning self.old by.now }
         requires call { IsLaterCall call }
         ensures told { OnOk result (past_of self.new ≡ with_event
             (record {
@@ -111,7 +111,7 @@ impl MemoryFolder {
         requires { MayFail call }
         ensures kept { IfOk result (λ kept. kept ≡ call) }
         ensures same { OnOk result (self.new ≡ self.old) }
-        ensures told { IfErr result (TellsFault self.old self.new by.now (call_of call)) }
+        ensures told { IfErr result (TellsFailure self.old self.new by.now (call_of call)) }
         ensures planned { FailsAsPlanned self.old self.new by.now (call_of call) result }
         ensures faults { CountsFailure FolderFault.Failed (faults_of self.old)
             (faults_of self.new) result }
@@ -131,7 +131,7 @@ impl MemoryFolder {
     fn due(&self, call: &Call) -> Result<Option<Effect>, AllocError>
         requires { MayFail call.now }
         ensures { IfOk result (λ due. due ≡ effect_due (folder_after (past_of self.now))
-            (call_of call.now) (planned_effect (calls_of self.now) (plan_of self.now))) }
+            (call_of call.now) (planned_effect (call_count self.now) (fault_plan self.now))) }
     {
         if self.log.store.refuses(call) {
             return Ok(Some(Effect::Nothing));
@@ -142,7 +142,7 @@ impl MemoryFolder {
     // Records that the call failed, with what it did as far as it can have.
     fn fail(&mut self, by: &Token, call: Call, effect: Effect) -> FolderFault
         requires { MayFail call }
-        ensures told { TellsFault self.old self.new by.now (call_of call) result }
+        ensures told { TellsFailure self.old self.new by.now (call_of call) result }
         ensures effect { result ≡ FolderFault.Failed
             → FailsWith self.old self.new by.now (call_of call) effect }
         ensures faults { CountsFault self.old self.new result }

@@ -17,7 +17,7 @@ use acct_text::{Bytes, Word};
 
 impl Folder for MemoryFolder {
     ghost use Rattle.std.specs.Prelude.{Some};
-    ghost use Rattle.memory_folder.specs.Memory.{FailsAsPlanned, IsCounted, IsUncounted, NotesIn, Runs, TellsIn, alive_of, faults_of, moment_of, no_others, past_of};
+    ghost use Rattle.memory_folder.specs.Memory.{FailsAsPlanned, CountsCall, IsUncounted, NotesIn, HasRunning, TellsIn, alive_of, faults_of, moment_of, no_others, past_of};
 
     ghost moment = { moment_of };
 
@@ -37,11 +37,11 @@ impl Folder for MemoryFolder {
         ensures told { WhereTold (Some (past_of self.old)) (Some (past_of self.new))
             (TellsBegin no_others
             (record { words = words.now; input = input.now; day = day }) result) }
-        ensures runs { IfOk result (Runs self.new) }
+        ensures runs { IfOk result (HasRunning self.new) }
         ensures acts { IfOk result (MayAct (moment_of self.new)) }
         ensures faults { CountsFailure FolderFault.Failed (faults_of self.old)
             (faults_of self.new) result }
-        ensures counted { IsCounted self.old self.new result }
+        ensures counted { CountsCall self.old self.new result }
         ensures planned { FailsAsPlanned self.old self.new []
             (begins (record { words = words.now; input = input.now; day = day })) result }
         ensures token { IfOk result (IsFirstUnused (past_of self.old) (alive_of self.old)) }
@@ -67,7 +67,7 @@ impl Folder for MemoryFolder {
         ensures ascending { IfOk result (λ numbers. IsNonDecreasing numbers.items) }
         ensures faults { CountsFailure FolderFault.Failed (faults_of self.old)
             (faults_of self.new) result }
-        ensures counted { IsCounted self.old self.new result }
+        ensures counted { CountsCall self.old self.new result }
         ensures planned { FailsAsPlanned self.old self.new by.now lists result }
         ensures noted { NotesIn self.old self.new
             (makes lists (listing_reply (locks_result result))) }
@@ -87,7 +87,7 @@ impl Folder for MemoryFolder {
         ensures limit { IfOk result (IsWithinLimit limit) }
         ensures faults { CountsFailure FolderFault.Failed (faults_of self.old)
             (faults_of self.new) result }
-        ensures counted { IsCounted self.old self.new result }
+        ensures counted { CountsCall self.old self.new result }
         ensures planned { FailsAsPlanned self.old self.new by.now (reads name) result }
         ensures noted { NotesIn self.old self.new (makes (reads name) (plain_reply result)) }
     {
@@ -106,7 +106,7 @@ impl Folder for MemoryFolder {
             × (has_token token.now (alive_of self.old) ≡ false))) }
         ensures faults { CountsFailure FolderFault.Failed (faults_of self.old)
             (faults_of self.new) result }
-        ensures counted { IsCounted self.old self.new result }
+        ensures counted { CountsCall self.old self.new result }
         ensures planned { FailsAsPlanned self.old self.new by.now (asks token.now) result }
         ensures noted { NotesIn self.old self.new (makes (asks token.now) (plain_reply result)) }
     {
@@ -125,7 +125,7 @@ impl Folder for MemoryFolder {
         ensures told { TellsIn self.old self.new by.now (creates number) result }
         ensures faults { CountsFailure FolderFault.Failed (faults_of self.old)
             (faults_of self.new) result }
-        ensures counted { IsCounted self.old self.new result }
+        ensures counted { CountsCall self.old self.new result }
         ensures planned { FailsAsPlanned self.old self.new by.now (creates number) result }
         ensures noted { NotesIn self.old self.new (makes (creates number) (plain_reply result)) }
     {
@@ -144,7 +144,7 @@ impl Folder for MemoryFolder {
         ensures told { TellsIn self.old self.new by.now (writes name piece.now) result }
         ensures faults { CountsFailure FolderFault.Failed (faults_of self.old)
             (faults_of self.new) result }
-        ensures counted { IsCounted self.old self.new result }
+        ensures counted { CountsCall self.old self.new result }
         ensures planned { FailsAsPlanned self.old self.new by.now (writes name piece.now) result }
         ensures noted { NotesIn self.old self.new
             (makes (writes name piece.now) (plain_reply result)) }
@@ -159,7 +159,7 @@ impl Folder for MemoryFolder {
         ensures told { TellsIn self.old self.new by.now (appends name piece.now) result }
         ensures faults { CountsFailure FolderFault.Failed (faults_of self.old)
             (faults_of self.new) result }
-        ensures counted { IsCounted self.old self.new result }
+        ensures counted { CountsCall self.old self.new result }
         ensures planned { FailsAsPlanned self.old self.new by.now (appends name piece.now) result }
         ensures noted { NotesIn self.old self.new
             (makes (appends name piece.now) (plain_reply result)) }
@@ -175,7 +175,7 @@ impl Folder for MemoryFolder {
         ensures told { TellsIn self.old self.new by.now (renames from to) result }
         ensures faults { CountsFailure FolderFault.Failed (faults_of self.old)
             (faults_of self.new) result }
-        ensures counted { IsCounted self.old self.new result }
+        ensures counted { CountsCall self.old self.new result }
         ensures planned { FailsAsPlanned self.old self.new by.now (renames from to) result }
         ensures noted { NotesIn self.old self.new (makes (renames from to) (plain_reply result)) }
     {
@@ -189,7 +189,7 @@ impl Folder for MemoryFolder {
         ensures told { TellsIn self.old self.new by.now (removes name) result }
         ensures faults { CountsFailure FolderFault.Failed (faults_of self.old)
             (faults_of self.new) result }
-        ensures counted { IsCounted self.old self.new result }
+        ensures counted { CountsCall self.old self.new result }
         ensures planned { FailsAsPlanned self.old self.new by.now (removes name) result }
         ensures noted { NotesIn self.old self.new (makes (removes name) (plain_reply result)) }
     {
@@ -199,7 +199,7 @@ impl Folder for MemoryFolder {
     }
 
     fn answered(&mut self, by: &Token, status: u8)
-        requires { Runs self.old by.now }
+        requires { HasRunning self.old by.now }
         ensures told { TellsIn self.old self.new by.now (answers status) (Ok tt) }
         ensures faults { faults_of self.new ≡ faults_of self.old }
         ensures uncounted { IsUncounted self.old self.new }

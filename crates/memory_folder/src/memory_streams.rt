@@ -151,13 +151,13 @@ pub struct MemoryClock {
 }
 
 impl MemoryClock {
-    ghost use Rattle.memory_folder.specs.MemoryStreams.{Fails, clock_calls, clock_faults, day_of, given_of, no_calls, with_next};
+    ghost use Rattle.memory_folder.specs.MemoryStreams.{Fails, clock_calls, clock_faults, clock_day, given_of, no_calls, with_next};
 
     /// A clock of this day, counted from 1970-01-01 and at most 2,932,896, of which these calls of
     /// `day` fail, counted from 1.
     pub fn new(day: u32, failing: Vec<u64>) -> Self
         requires { day ≤ last_day }
-        ensures day { day_of result ≡ day }
+        ensures day { clock_day result ≡ day }
         ensures calls { clock_calls result ≡ no_calls failing.items }
         ensures faults { clock_faults result ≡ no_faults }
     {
@@ -171,15 +171,15 @@ impl MemoryClock {
 
 impl Clock for MemoryClock {
     ghost use Rattle.std.specs.Prelude.{Some};
-    ghost use Rattle.memory_folder.specs.MemoryStreams.{Fails, clock_calls, clock_faults, day_of, given_of, no_calls, with_next, clock_moment};
+    ghost use Rattle.memory_folder.specs.MemoryStreams.{Fails, clock_calls, clock_faults, clock_day, given_of, no_calls, with_next, clock_moment};
 
     ghost moment = { clock_moment };
 
     fn day(&mut self) -> Result<u32, ClockFault>
-        ensures day { IfOk result (λ day. day ≡ day_of self.old) }
+        ensures day { IfOk result (λ day. day ≡ clock_day self.old) }
         ensures given { IfOk result (λ day. given_of self.new ≡ Some day) }
         ensures err { OnErr result (given_of self.new ≡ given_of self.old) }
-        ensures stays { day_of self.new ≡ day_of self.old }
+        ensures stays { clock_day self.new ≡ clock_day self.old }
         ensures fails { IsErrOf result ClockFault.Failed ↔ Fails (clock_calls self.old) }
         ensures calls { clock_calls self.new ≡ with_next (clock_calls self.old) }
         ensures faults { NotesFault ClockFault.Failed (clock_faults self.old)

@@ -22,7 +22,7 @@ use Rattle.account_model.specs.Words.{AsksAs, without_prefix, prefix_value, pref
 use Rattle.option_words.specs.declared.reading.Reading.{Reading}
 use Rattle.option_words.specs.declared.reading.Expects.{Expects}
 use Rattle.option_words.specs.declared.reading.Expects.TheVariants.{AnyWord, ValueOf, OperandsAlone}
-use Rattle.option_words.specs.Reading.{table_of, room_of, has_room, after_option, request_by, rest_by, outcome_of, options_of_word, LeadsTo, ReadsOn, Answers, AnswersReading}
+use Rattle.option_words.specs.Reading.{forms_of, room_of, has_room, after_option, request_by, rest_by, outcome_of, options_of_word, KeepsOutcome, ReadsOn, Answers, AnswersReading}
 use Rattle.option_words.specs.Parsed.{request_in}
 use Rattle.option_words.specs.declared.parsed.Parsed.{Parsed}
 use Rattle.account_model.proofs.AsksLaws.{read_is_asked}
@@ -105,7 +105,7 @@ module _ (reading : Reading) (place : ℕ) (words : List Word) where
   options_of_word-flag letter (Err fault) = refl
   options_of_word-flag letter (Ok options) =
       let rest =
-      read_arguments (table_of reading) options.waiting (room_of reading) (suc place) words in
+      read_arguments (forms_of reading) options.waiting (room_of reading) (suc place) words in
       ap (request_by reading) (with_options-cons (as_flag letter) options.given rest)
       ∙ request_by-option reading (as_flag letter) (with_options options.given rest)
 
@@ -113,21 +113,21 @@ module _ (reading : Reading) (place : ℕ) (words : List Word) where
 pub options_of_word-nothing :
     (reading : Reading) (place : ℕ) (words : List Word)
     → reading.expects ≡ AnyWord
-    → options_of_word reading place (letters_reading (table_of reading) []) words
+    → options_of_word reading place (letters_reading (forms_of reading) []) words
     ≡ outcome_of reading (suc place) words
 options_of_word-nothing reading place words any =
     ap (request_by reading) (with_options-nil
-    (read_arguments (table_of reading) None (room_of reading) (suc place) words))
+    (read_arguments (forms_of reading) None (room_of reading) (suc place) words))
     ∙ ap (λ expects. request_by reading (rest_by expects reading (suc place) words)) (sym any)
 
 -- one option leads on
 pub complete-leads :
     (reading : Reading) (place : ℕ) (option : Given)
     → reading.expects ≡ AnyWord
-    → LeadsTo (options_of_word reading place (complete option)) (after_option reading option)
+    → KeepsOutcome (options_of_word reading place (complete option)) (after_option reading option)
     (suc place)
 complete-leads reading place option any words =
-    let rest = read_arguments (table_of reading) None (room_of reading) (suc place) words in
+    let rest = read_arguments (forms_of reading) None (room_of reading) (suc place) words in
     request_by-option reading option rest ∙ rw any refl
 
 -- a value behind a letter, where there is one
@@ -210,20 +210,20 @@ room_of-full reading full = omega arith
 pub outcome_of-word :
     (reading : Reading) (place : ℕ) (word : Word) (words : List Word) (meaning : Meaning)
     → reading.expects ≡ AnyWord
-    → word_meaning (table_of reading) word ≡ meaning
+    → word_meaning (forms_of reading) word ≡ meaning
     → outcome_of reading place (word ∷ words)
     ≡ request_by reading (read_word meaning (room_of reading) place word words
-    (λ waiting room. read_arguments (table_of reading) waiting room (suc place) words))
+    (λ waiting room. read_arguments (forms_of reading) waiting room (suc place) words))
 outcome_of-word reading place word words meaning any means =
     ap (λ expects. request_by reading (rest_by expects reading place (word ∷ words))) any
     ∙ ap (λ meaning. request_by reading (read_word meaning (room_of reading) place word words
-    (λ waiting room. read_arguments (table_of reading) waiting room (suc place) words))) means
+    (λ waiting room. read_arguments (forms_of reading) waiting room (suc place) words))) means
 
 -- a word that gives options
 pub outcome_of-options :
     (reading : Reading) (place : ℕ) (word : Word) (options : WordReading)
     → reading.expects ≡ AnyWord
-    → word_meaning (table_of reading) word ≡ has_options options
+    → word_meaning (forms_of reading) word ≡ has_options options
     → (words : List Word)
     → outcome_of reading place (word ∷ words) ≡ options_of_word reading place options words
 outcome_of-options reading place word (Ok options) any means words =
@@ -235,14 +235,14 @@ outcome_of-options reading place word (Err fault) any means words =
 pub outcome_of-operand :
     (reading : Reading) (place : ℕ) (word : Word)
     → reading.expects ≡ AnyWord
-    → word_meaning (table_of reading) word ≡ is_an_operand
+    → word_meaning (forms_of reading) word ≡ is_an_operand
     → has_room reading
-    → LeadsTo (λ words. outcome_of reading place (word ∷ words))
+    → KeepsOutcome (λ words. outcome_of reading place (word ∷ words))
     (record reading { operands = reading.operands ++ word ∷ [] }) (suc place)
 outcome_of-operand reading place word any means room words =
     let more : Reading = record reading { operands = reading.operands ++ word ∷ [] } in
     let read_on = λ (waiting : Option ℕ) (room : ℕ).
-    read_arguments (table_of reading) waiting room (suc place) words in
+    read_arguments (forms_of reading) waiting room (suc place) words in
     outcome_of-word reading place word words is_an_operand any means
     ∙ ap (λ room. request_by reading (read_word is_an_operand room place word words read_on))
     (room_of-operand reading word room)
@@ -253,26 +253,26 @@ outcome_of-operand reading place word any means room words =
 pub outcome_of-too_many :
     (reading : Reading) (place : ℕ) (word : Word)
     → reading.expects ≡ AnyWord
-    → word_meaning (table_of reading) word ≡ is_an_operand
+    → word_meaning (forms_of reading) word ≡ is_an_operand
     → ¬ (has_room reading)
     → (words : List Word)
     → outcome_of reading place (word ∷ words) ≡ Err (TooMany place)
 outcome_of-too_many reading place word any means full words =
     outcome_of-word reading place word words is_an_operand any means
     ∙ ap (λ room. request_by reading (read_word is_an_operand room place word words
-    (λ waiting room. read_arguments (table_of reading) waiting room (suc place) words)))
+    (λ waiting room. read_arguments (forms_of reading) waiting room (suc place) words)))
     (room_of-full reading full)
 
 -- a word that is the value of a letter
 pub outcome_of-value :
     (reading : Reading) (place : ℕ) (letter : ℕ) (word : Word)
     → reading.expects ≡ ValueOf letter
-    → LeadsTo (λ words. outcome_of reading place (word ∷ words))
+    → KeepsOutcome (λ words. outcome_of reading place (word ∷ words))
     (after_option (record reading { expects = AnyWord }) (as_value letter word)) (suc place)
 outcome_of-value reading place letter word waits words =
     ap (λ expects. request_by reading (rest_by expects reading place (word ∷ words))) waits
     ∙ request_by-option (record reading { expects = AnyWord }) (as_value letter word)
-    (read_arguments (table_of reading) None (room_of reading) (suc place) words)
+    (read_arguments (forms_of reading) None (room_of reading) (suc place) words)
 
 -- ---- Steps
 
@@ -299,7 +299,7 @@ OnOk-from (Err fault) from fact = tt
 pub operand-reads :
     {T : Type 0} (reading new : Reading) (place : ℕ) (word : Word) (result : Result T WordFault)
     → reading.expects ≡ AnyWord
-    → word_meaning (table_of reading) word ≡ is_an_operand
+    → word_meaning (forms_of reading) word ≡ is_an_operand
     → OnOk result (has_room reading
     × (new ≡ record reading { operands = reading.operands ++ word ∷ [] }))
     → IfErr result (λ fault. (fault ≡ Memory) ⊎ (¬ (has_room reading) × (fault ≡ TooMany place)))

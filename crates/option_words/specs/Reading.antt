@@ -16,8 +16,8 @@ use Rattle.option_words.specs.declared.reading.Expects.TheVariants.{AnyWord, Val
 use Rattle.option_words.specs.Parsed.{request_in}
 
 -- the options that such words may give the tool
-abbrev pub table_of : Reading → List OptionForm
-table_of reading = options_for reading.whose reading.tool
+abbrev pub forms_of : Reading → List OptionForm
+forms_of reading = options_for reading.whose reading.tool
 
 -- how many operands the tool still takes
 abbrev pub room_of : Reading → ℕ
@@ -47,9 +47,9 @@ request_by reading (Ok (given, operands)) =
 -- what the words from a place on give
 abbrev pub rest_by : Expects → Reading → ℕ → List Word → Result Arguments WordFault
 rest_by AnyWord reading place words =
-    read_arguments (table_of reading) None (room_of reading) place words
+    read_arguments (forms_of reading) None (room_of reading) place words
 rest_by (ValueOf letter) reading place words =
-    read_arguments (table_of reading) (Some letter) (room_of reading) place words
+    read_arguments (forms_of reading) (Some letter) (room_of reading) place words
 rest_by OperandsAlone reading place words = read_operands (room_of reading) place words
 
 -- the request of what was read and of the words from a place on
@@ -61,16 +61,17 @@ abbrev pub options_of_word : Reading → ℕ → WordReading → List Word → R
 options_of_word reading place options words =
     request_by reading
     (read_word (has_options options) (room_of reading) place [] words
-    (λ waiting room. read_arguments (table_of reading) waiting room (suc place) words))
+    (λ waiting room. read_arguments (forms_of reading) waiting room (suc place) words))
 
 -- whatever words come behind, the reading at the next place has the same outcome
-abbrev pub LeadsTo : (List Word → Result Request WordFault) → Reading → ℕ → Type 0
-LeadsTo before reading place = (words : List Word) → before words ≡ outcome_of reading place words
+abbrev pub KeepsOutcome : (List Word → Result Request WordFault) → Reading → ℕ → Type 0
+KeepsOutcome before reading place =
+    (words : List Word) → before words ≡ outcome_of reading place words
 
 -- a step leads to a reading of the same outcome, or to the fault that is the outcome
 abbrev pub ReadsOn : {T : Type 0} → (List Word → Result Request WordFault) → Reading → ℕ →
     Result T WordFault → Type 0
-ReadsOn before reading place (Ok _) = LeadsTo before reading place
+ReadsOn before reading place (Ok _) = KeepsOutcome before reading place
 ReadsOn before reading place (Err fault) =
     (fault ≡ Memory) ⊎ ((words : List Word) → before words ≡ Err fault)
 

@@ -4,7 +4,7 @@ ghost use Rattle.std.specs.Prelude.{◌≡◌, ◌⊎◌, ℕ, suc, [], ◌∷�
 ghost use Rattle.account_model.specs.Spelling.{letters_reading, long_reading, name_reading, name_reading_with, value_behind};
 ghost use Rattle.account_model.specs.Words.{prefix_for as prefix_by, request_of_tool, request_with};
 ghost use Rattle.account_model.specs.SeenRows.{form_of};
-ghost use Rattle.option_words.specs.Reading.{Answers, AnswersReading, LeadsTo, ReadsOn, after_option, has_room, options_of_word, outcome_of, table_of};
+ghost use Rattle.option_words.specs.Reading.{Answers, AnswersReading, KeepsOutcome, ReadsOn, after_option, has_room, options_of_word, outcome_of, forms_of};
 
 use crate::forms::{form_of_letter, form_of_name, is_prefix};
 use crate::meaning::{Meaning, cut_at_equals, meaning_of};
@@ -130,7 +130,8 @@ impl Reading {
     // Takes what stands behind `--`: a long name, and maybe `=` and a value.
     fn take_long(&mut self, place: usize, text: &[u8]) -> Result<(), WordFault>
         requires { self.old.expects ≡ Expects.AnyWord }
-        ensures { ReadsOn (options_of_word self.old place (long_reading (table_of self.old) text.now))
+        ensures { ReadsOn
+            (options_of_word self.old place (long_reading (forms_of self.old) text.now))
             self.new (suc place) result }
     {
         let option = cut_at_equals(text);
@@ -165,7 +166,7 @@ impl Reading {
     fn take_name(&mut self, form: OptionForm) -> Result<(), AllocError>
         requires { self.old.expects ≡ Expects.AnyWord }
         ensures { OnOk result ((place : ℕ) →
-            LeadsTo (options_of_word self.old place (name_reading (Some (form_of form))))
+            KeepsOutcome (options_of_word self.old place (name_reading (Some (form_of form))))
             self.new (suc place)) }
     {
         if form.takes_value() {
@@ -179,7 +180,7 @@ impl Reading {
     fn take_letters(&mut self, place: usize, letters: &[u8]) -> Result<(), WordFault>
         requires { self.old.expects ≡ Expects.AnyWord }
         ensures { ReadsOn
-            (options_of_word self.old place (letters_reading (table_of self.old) letters.now))
+            (options_of_word self.old place (letters_reading (forms_of self.old) letters.now))
             self.new (suc place) result }
     {
         let mut letters = letters;
@@ -200,7 +201,7 @@ impl Reading {
     fn take_value_behind(&mut self, letter: u8, behind: &[u8]) -> Result<(), AllocError>
         requires { self.old.expects ≡ Expects.AnyWord }
         ensures { OnOk result ((place : ℕ) →
-            LeadsTo (options_of_word self.old place (value_behind letter behind.now))
+            KeepsOutcome (options_of_word self.old place (value_behind letter behind.now))
             self.new (suc place)) }
     {
         if behind.is_empty() {

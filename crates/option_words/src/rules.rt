@@ -2,7 +2,7 @@
 ghost use Rattle.std.specs.Prelude.{◌≡◌, ◌<◌, map, length, filter, position, not, IfSome};
 ghost use Rattle.account_model.specs.Options.{is_given as has_letter, is_alone as has_no_other, some_of, alone};
 ghost use Rattle.account_model.specs.Words.{broken_rule as first_broken};
-ghost use Rattle.account_model.specs.SeenRows.{test_of};
+ghost use Rattle.account_model.specs.SeenRows.{row_test};
 
 use Test::{Alone, ExactlyOne, NotBoth, OneOf, OnlyWith, SomeOf, SomeOption};
 use account_model::{Given, Rule, Test, Tool};
@@ -17,7 +17,7 @@ pub(crate) fn broken_rule(tool: Tool, options: &[Given]) -> Option<u32>
 
 // The place of the first rule that the options break, counted from 0.
 fn place_of_broken(rules: &[Rule], options: &[Given]) -> Option<usize>
-    ensures place { result ≡ position (λ rule. not (test_of rule.test options.now)) rules.now }
+    ensures place { result ≡ position (λ rule. not (row_test rule.test options.now)) rules.now }
     ensures within { IfSome result (λ place. place < length rules.now) }
 {
     rules.iter().position(|rule| !passes(rule.test, options))
@@ -25,7 +25,7 @@ fn place_of_broken(rules: &[Rule], options: &[Given]) -> Option<usize>
 
 // Whether the options pass the test.
 fn passes(test: Test, options: &[Given]) -> bool
-    ensures { result ≡ test_of test options.now }
+    ensures { result ≡ row_test test options.now }
 {
     match test {
         NotBoth(first, second) => !(is_given(first, options) && is_given(second, options)),

@@ -1,7 +1,7 @@
 -- The decision of a plan, by that of its command: no table changes, and what is printed tells of it.
 use Rattle.acct_text.specs.declared.files.Files.{Files}
 use Rattle.account_model.specs.declared.plan_form.PlanForm.{PlanForm}
-use Rattle.account_model.specs.PlanTexts.{told}
+use Rattle.account_model.specs.PlanTexts.{plan_text}
 use Rattle.tool_answers.specs.declared.decision.Output.{Output}
 use Rattle.tool_answers.specs.declared.decision.Decision.{Decision}
 use Rattle.tool_answers.specs.declared.decision.Decision.TheVariants.{Change, Same, Refuse, RefuseLine}
@@ -11,7 +11,7 @@ use Rattle.plan_tool.specs.SeenChanges.{files_with}
 abbrev pub planned_output : PlanForm → Files → Files → Output → Output
 planned_output form old new output = record {
   status = output.status;
-  out = told form old new output.status output.out output.err;
+  out = plan_text form old new output.status output.out output.err;
   err = output.err;
 }
 

@@ -1,7 +1,7 @@
 // The decision of a plan.
 ghost use Rattle.std.specs.Prelude.{◌≡◌, ◌++◌, flat_map, IfOk, OnOk};
 ghost use Rattle.account_model.specs.PlanDiff.{diff_text};
-ghost use Rattle.account_model.specs.PlanTexts.{size_line, told};
+ghost use Rattle.account_model.specs.PlanTexts.{size_line, plan_text};
 ghost use Rattle.plan_tool.specs.Planned.{planned_decision, planned_output};
 ghost use Rattle.plan_tool.specs.SeenChanges.{changes_told, files_then, seen_change};
 

@@ -17,12 +17,12 @@ untold faults journal = record {
 }
 
 -- the count of the faults that were noted; the last call failed where its error is kept
-abbrev pub faults_of : Noted → Faults
-faults_of noted = record { count = noted.count; last_failed = is_some noted.last }
+abbrev pub noted_faults : Noted → Faults
+noted_faults noted = record { count = noted.count; last_failed = is_some noted.last }
 
 -- a source with these faults
 abbrev pub untold_source : Noted → SourceMoment
-untold_source noted = record { left = None; faults = faults_of noted }
+untold_source noted = record { left = None; faults = noted_faults noted }
 
 -- a sink that has failed so often
 abbrev pub untold_sink : ℕ → SinkMoment
@@ -30,4 +30,4 @@ untold_sink faults = record { holds = None; faults = faults }
 
 -- a clock that last gave this day, if any, with these faults
 abbrev pub untold_clock : Option ℕ → Noted → ClockMoment
-untold_clock gave noted = record { gave = gave; always = None; faults = faults_of noted }
+untold_clock gave noted = record { gave = gave; always = None; faults = noted_faults noted }

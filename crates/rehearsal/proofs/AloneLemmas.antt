@@ -57,8 +57,8 @@ use Rattle.suite_session.specs.Stands.{IsDecided}
 use Rattle.suite_course.specs.Streams.{Streams}
 use Rattle.suite_course.specs.declared.supplies.Lack.{Lack}
 use Rattle.suite_course.specs.declared.supplies.Lack.TheVariants.{Supply, Line}
-use Rattle.suite_course.specs.Supplies.{Supplies, IsUnsupplied, Lacks, told_lack}
-use Rattle.suite_course.specs.Alone.{IsAlone, Leaves}
+use Rattle.suite_course.specs.Supplies.{Supplies, IsUnsupplied, IsLacking, told_lack}
+use Rattle.suite_course.specs.Alone.{IsAlone, LeavesFolder}
 use Rattle.suite_course.specs.Shows.{HasChanged, HasStayed, IsShownAt}
 use Rattle.suite_course.specs.Top.{EndsEarly, EndsUnsupplied, HasNotRun, HasRun, Ran, RunsOrNot}
 use Rattle.rehearsal.specs.Alone.{IsLawful, IsStep}
@@ -75,7 +75,7 @@ unsupplied-cause tool before now (Memory stage) due decided = decided
 unsupplied-cause tool before now cause due decided = due
 
 -- or with a line of a batch that asks for nothing
-lack-cause : (tool : Tool) (before now : Supplies) (lack : Lack) → Lacks tool before now lack →
+lack-cause : (tool : Tool) (before now : Supplies) (lack : Lack) → IsLacking tool before now lack →
     IsDecided (told_lack tool lack).outcome.cause → ⊥
 lack-cause tool before now (Supply cause) due decided =
     unsupplied-cause tool before now cause due decided
@@ -302,7 +302,7 @@ module _ (deeds : SuiteDeeds) (ours : AreOfTools deeds) (asked : Question)
     step-of : Lawful deeds first old → Lawful deeds first new →
         ChangedOrStayed deeds asked first new token given given.outcome.cause →
         IsDecided given.outcome.cause →
-        Leaves asked first old new token given.outcome.cause →
+        LeavesFolder asked first old new token given.outcome.cause →
         IsStep asked.request asked.command.input asked.command.day
         (record { first = first; history = old })
         (record { first = first; history = new }) given.outcome

@@ -14,7 +14,7 @@ use Rattle.suite_answers.specs.Fronts.{HoldsFront}
 use Rattle.suite_course.specs.Streams.{streams}
 use Rattle.rehearsal.specs.declared.asked.Rehearsal.{Rehearsal}
 use Rattle.rehearsal.specs.Asked.{AsksFor}
-use Rattle.rehearsal.specs.Endings.{AsksForNone, Ends, EndsAs, GetFronts, Tells, lacks_memory, lacks_memory_for_use, memory_line, status_after, sums_up, tells_use, usage_line}
+use Rattle.rehearsal.specs.Endings.{AsksForNone, Ends, EndsAs, GetFronts, PutsLine, lacks_memory, lacks_memory_for_use, memory_line, status_after, sums_up, tells_use, usage_line}
 use Rattle.rehearsal.specs.Summary.{summary_of}
 
 -- ---- One stream
@@ -80,7 +80,7 @@ module _ (words : List Word) (asked : Rehearsal) (asks : AsksFor words asked)
   -- there was no memory for it, and that was told
   pub lacking-ends : (err_holds : SinkMoment) (status : ℕ) →
       WhereBytesTold out_was.holds out_holds.holds (Puts (summary_of asked) (Err Memory)) →
-      Tells memory_line 100 err_was err_holds status →
+      PutsLine memory_line 100 err_was err_holds status →
       Ends words (streams out_was err_was) (streams out_holds err_holds) status
   lacking-ends err_holds status holds tells = record {
     ending = lacks_memory asked;
@@ -108,7 +108,7 @@ module _ (words : List Word) (asked : Rehearsal) (asks : AsksFor words asked)
 module _ (words : List Word) (none : AsksForNone words)
     (out_was err_was err_holds : SinkMoment) where
   -- the line that tells it was put
-  pub use-ends : (status : ℕ) → Tells usage_line 2 err_was err_holds status →
+  pub use-ends : (status : ℕ) → PutsLine usage_line 2 err_was err_holds status →
       Ends words (streams out_was err_was) (streams out_was err_holds) status
   use-ends status tells = by-put tells.put tells.left tells.holds tells.faults
     where

@@ -45,11 +45,11 @@ ComesTo words (lacks_memory asked) = AsksFor words asked
 ComesTo words lacks_memory_for_use = AsksForNone words
 
 -- its status
-abbrev pub status_of : Ending → ℕ
-status_of (sums_up asked) = 0
-status_of tells_use = 2
-status_of (lacks_memory asked) = 100
-status_of lacks_memory_for_use = 100
+abbrev pub ending_status : Ending → ℕ
+ending_status (sums_up asked) = 0
+ending_status tells_use = 2
+ending_status (lacks_memory asked) = 100
+ending_status lacks_memory_for_use = 100
 
 -- what the output stream gets: the summary, or nothing
 abbrev pub out_text : Ending → Bytes
@@ -94,7 +94,7 @@ failed_status = 102
 
 -- it ends with its status; or a stream failed, and fronts of its texts came
 abbrev pub EndsAs : Ending → Streams → Streams → ℕ → Type 0
-EndsAs ending was holds status = ((status ≡ status_of ending) × Get ending was holds)
+EndsAs ending was holds status = ((status ≡ ending_status ending) × Get ending was holds)
     ⊎ ((status ≡ failed_status) × GetFronts ending was holds × OneFails ending was holds)
 
 -- the words come to an ending, and so it ends
@@ -112,7 +112,7 @@ status_after (Err Failed) due = failed_status
 status_after (Err Memory) due = 100
 
 -- the line was put, and the status is what that left of the one that was due
-pub record Tells (line : Bytes) (due : ℕ) (before now : SinkMoment) (status : ℕ) : Type 0 where
+pub record PutsLine (line : Bytes) (due : ℕ) (before now : SinkMoment) (status : ℕ) : Type 0 where
   pub put : Result (Unit {0}) SinkFault
   pub holds : WhereBytesTold before.holds now.holds (Puts line put)
   pub faults : CountsFailure Failed before.faults now.faults put

@@ -20,18 +20,18 @@ abbrev pub count_line : Bytes → ℕ → Bytes
 count_line word count = word ++ spaced count ++ newline ∷ []
 
 -- `TABLE LINES BYTES`
-abbrev pub table_line : Tab → Bytes → Bytes
-table_line table text =
+abbrev pub summary_line : Tab → Bytes → Bytes
+summary_line table text =
     table_name table ++ spaced (length (lines_of text)) ++ spaced (length text) ++ newline ∷ []
 
 -- the lines of these tables
-abbrev pub table_lines : Reached → List Tab → Bytes
-table_lines last tables = flat_map (λ table. table_line table (text_of last.files table)) tables
+abbrev pub summary_lines : Reached → List Tab → Bytes
+summary_lines last tables = flat_map (λ table. summary_line table (text_of last.files table)) tables
 
 -- the summary of so many commands that left this
 abbrev pub summary_with : ℕ → Reached → Bytes
 summary_with count last = count_line (codes "commands") count
-    ++ count_line (codes "changed") last.changed ++ table_lines last all_tables
+    ++ count_line (codes "changed") last.changed ++ summary_lines last all_tables
 
 -- the summary of a rehearsal
 abbrev pub summary_of : Rehearsal → Bytes

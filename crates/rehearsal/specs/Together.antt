@@ -9,7 +9,7 @@ use Rattle.suite_rules.specs.Deeds.{SuiteDeeds}
 use Rattle.suite_rules.specs.Settled.{settled}
 use Rattle.suite_rules.specs.Committed.{committed, folded}
 use Rattle.suite_session.specs.declared.session.Phase.{Phase}
-use Rattle.suite_session.specs.Belongs.{AreApart, Belongs}
+use Rattle.suite_session.specs.Belongs.{AreTwo, Belongs}
 use Rattle.suite_session.specs.Deeds.{AreOfTools}
 use Rattle.suite_course.specs.Turned.{KeepsPromises}
 use Rattle.rehearsal.specs.Alone.{IsLawful}
@@ -19,7 +19,7 @@ pub record BelongTogether (folder : MemoryFolder) (one other : Phase) : Type 0 w
   pub lawful : IsLawful (past_of folder)
   pub one_belongs : Belongs (moment_of folder) one
   pub other_belongs : Belongs (moment_of folder) other
-  pub apart : AreApart one other
+  pub apart : AreTwo one other
 
 -- between two moments of the folder a session was turned: each other one that belonged to the folder
 -- together with it does so still

@@ -8,7 +8,7 @@ ghost use Rattle.acct_outside.specs.Faults.{CountsFailure};
 ghost use Rattle.acct_outside.specs.Streams.{Puts, WhereBytesTold};
 ghost use Rattle.suite_course.specs.Streams.{streams};
 ghost use Rattle.rehearsal.specs.Asked.{AsksFor, IsWithinBounds};
-ghost use Rattle.rehearsal.specs.Endings.{Ends, Tells, status_after};
+ghost use Rattle.rehearsal.specs.Endings.{Ends, PutsLine, status_after};
 ghost use Rattle.rehearsal.specs.Summary.{summary_of};
 
 use crate::asked::{Rehearsal, asked_by};
@@ -73,7 +73,7 @@ fn put_summary<O: Sink>(alloc: Global, asked: Rehearsal, out: &mut O) -> Result<
 
 // Puts a line, and gives the status: this one, or that of the fault of the sink.
 fn tell<E: Sink>(err: &mut E, line: &[u8], status: u8) -> u8
-    ensures { Tells line.now status (E.moment err.old) (E.moment err.new) result }
+    ensures { PutsLine line.now status (E.moment err.old) (E.moment err.new) result }
 {
     let put = err.put(line);
     status_after(put, status)

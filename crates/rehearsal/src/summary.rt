@@ -2,7 +2,7 @@
 ghost use Rattle.std.specs.Prelude.{◌≡◌, ◌++◌, length, IfOk, OnOk};
 ghost use Rattle.acct_text.specs.Lines.{lines_of};
 ghost use Rattle.rehearsal.specs.Asked.{IsWithinBounds};
-ghost use Rattle.rehearsal.specs.Summary.{count_line, spaced, summary_of, summary_with, table_line};
+ghost use Rattle.rehearsal.specs.Summary.{count_line, spaced, summary_of, summary_with, summary_line};
 
 use crate::asked::Rehearsal;
 use crate::course::{Reached, course_of};
@@ -43,7 +43,7 @@ fn push_count(summary: &mut Bytes, word: &[u8], count: u64) -> Result<(), AllocE
 
 // Adds the line of a table with this text: its name, its lines and its bytes.
 fn push_table(alloc: Global, summary: &mut Bytes, table: Tab, text: &[u8]) -> Result<(), AllocError>
-    ensures { OnOk result (summary.new ≡ summary.old ++ table_line table text.now) }
+    ensures { OnOk result (summary.new ≡ summary.old ++ summary_line table text.now) }
 {
     let count = line_count(alloc, text)?;
     summary.push(table.name().as_bytes())?;

@@ -16,7 +16,7 @@ use Rattle.acct_outside.specs.Others.{Admission, ByOthers, none_came, one_came}
 use Rattle.suite_rules.specs.Deeds.{SuiteDeeds}
 use Rattle.suite_session.specs.declared.session.Phase.{Phase}
 use Rattle.suite_session.specs.declared.session.Phase.TheVariants.{Waiting, Begun, Over, Unbegun}
-use Rattle.suite_session.specs.Belongs.{AreApart, Belongs}
+use Rattle.suite_session.specs.Belongs.{AreTwo, Belongs}
 use Rattle.suite_session.specs.Deeds.{AreOfTools}
 use Rattle.suite_session.specs.Turning.{KeepsOthers}
 use Rattle.suite_course.specs.Turned.{AnswersKeepPromises, KeepsPromises}
@@ -24,7 +24,7 @@ use Rattle.side_by_side.specs.declared.step.Step.{Step}
 use Rattle.side_by_side.specs.declared.step.Step.TheVariants.{Turn, Die}
 use Rattle.side_by_side.specs.Places.{place_of}
 use Rattle.side_by_side.specs.Scenes.{HasDied, Scene, TakePart, Telling, has_ended, moment_in, scene, telling}
-use Rattle.side_by_side.specs.Steps.{Acts, ActsAmong, Dies, Goes, StaysAside, TakesAt, TakesFront, TakesStep, TakesSteps}
+use Rattle.side_by_side.specs.Steps.{Acts, ActsAmong, Dies, Goes, StaysAside, TakesAt, TakesFront, MovesBy, TakesSteps}
 use Rattle.side_by_side.proofs.ActLemmas.{death-takes-part, telling-same}
 use Rattle.side_by_side.proofs.SceneLemmas.{apart-at}
 use Rattle.side_by_side.proofs.StepLemmas.{Leads, steps-lead}
@@ -135,14 +135,14 @@ module _ (deeds : SuiteDeeds) (are : AreOfTools deeds) where
         by-ended false is acts was = goes-is step is acts was
 
     -- another that belonged does so
-    kept-is : (other : Phase) → AreApart old other →
+    kept-is : (other : Phase) → AreTwo old other →
         KeepsOthers (moment_in before) (moment_in now) old new → BelongsOrDied deeds before other →
         BelongsOrDied deeds now other
     kept-is other apart others (inl belongs) = inl ((others other belongs apart).belongs)
     kept-is other apart others (inr died) = inr (died-on before now other longer died)
 
     -- whatever the session does
-    other-is : (step : Step) (other : Phase) → AreApart old other → Acts step before now old new →
+    other-is : (step : Step) (other : Phase) → AreTwo old other → Acts step before now old new →
         BelongsOrDied deeds before other → BelongsOrDied deeds now other
     other-is step other apart = by-ended (has_ended before old)
       where
@@ -183,14 +183,14 @@ module _ (deeds : SuiteDeeds) (are : AreOfTools deeds) where
                 ∙ get_or-set_other before.sessions place k acts.new d other))
                 (other-is before.told now.told old acts.new lawful keeps longer step
                 (get_or before.sessions k d)
-                (subst (λ (session : Phase). AreApart session (get_or before.sessions k d)) (at d)
+                (subst (λ (session : Phase). AreTwo session (get_or before.sessions k d)) (at d)
                 (apart-at before.sessions part.apart k place d within low other))
                 acts.acts was)
           ];
         }
 
     -- a step
-    step-is : TakesStep step before now → EachBelongsOrDied deeds before now
+    step-is : MovesBy step before now → EachBelongsOrDied deeds before now
     step-is = by-found (slice_get before.sessions (place_of step)) refl
       where
         by-found : (found : Option Phase) → slice_get before.sessions (place_of step) ≡ found →

@@ -25,7 +25,7 @@ IsLawfulFor deeds past = Lawful deeds past.first past.history
 
 -- The history is lawful, the settled files are the first ones as the committed commands changed them in
 -- the order of their locks, and each session that belongs to the folder has what the top call promises.
-pub record IsKept (deeds : SuiteDeeds) (here : Scene) : Type 0 where
+pub record IsScheduleKept (deeds : SuiteDeeds) (here : Scene) : Type 0 where
   pub lawful : IsLawfulFor deeds here.told.past
   pub settles : (table : Tab) → settled (after here.told.past.first here.told.past.history) table
       ≡ folded deeds here.told.past.first (committed here.told.past.history) table
@@ -35,7 +35,7 @@ pub record IsKept (deeds : SuiteDeeds) (here : Scene) : Type 0 where
 -- so it is, for the deeds of the tools, where the history was lawful before
 abbrev pub HoldsLawfully : Scene → Scene → Type 0
 HoldsLawfully before now = (deeds : SuiteDeeds) → AreOfTools deeds →
-    IsLawfulFor deeds before.told.past → IsKept deeds now
+    IsLawfulFor deeds before.told.past → IsScheduleKept deeds now
 
 -- The session had begun, and died within its next call after an earlier moment of the folder. The history
 -- of that moment is lawful, and the session had there what the top call promises: where its answer was to

@@ -24,12 +24,12 @@ use Rattle.suite_session.specs.declared.session.Phase.{Phase}
 use Rattle.suite_session.specs.declared.session.Phase.TheVariants.{Waiting, Begun, Over, Unbegun}
 use Rattle.suite_session.specs.Runner.{Runner}
 use Rattle.suite_session.specs.Answers.{memory_answer}
-use Rattle.suite_session.specs.Belongs.{AreApart, Belongs}
+use Rattle.suite_session.specs.Belongs.{AreTwo, Belongs}
 use Rattle.suite_session.specs.Grows.{Grows, none_new, others_new, own_new}
 use Rattle.suite_session.specs.Session.{token_of}
 use Rattle.suite_session.specs.Stands.{StaysOurs}
 use Rattle.suite_session.specs.Turning.{KeepsOthers, SessionTurns}
-use Rattle.side_by_side.specs.Scenes.{HasBegun, HasDied, HasEnded, TakesPart, Telling, has_ended, moment_in}
+use Rattle.side_by_side.specs.Scenes.{HasBegun, HasDied, IsOver, TakesPart, Telling, has_ended, moment_in}
 use Rattle.side_by_side.specs.Steps.{Dies}
 use Rattle.side_by_side.specs.Advances.{KeepsLawful}
 
@@ -281,13 +281,13 @@ module _ (before now : Telling) where
 -- ---- The others
 
 -- a life that ended began
-ended-begun : (past : Past) (token : Token) → HasEnded past token → HasBegun past token
+ended-begun : (past : Past) (token : Token) → IsOver past token → HasBegun past token
 ended-begun past token has = record { named = has.named; begun = ap was_begun has.ended }
 
 module _ (before now : Telling) (old new : Phase) (does : Does before now old new) where
   -- an ended life stays so
-  ended-stays : (token : Token) → token_of old ≢ Some token → HasEnded before.past token →
-      HasEnded now.past token
+  ended-stays : (token : Token) → token_of old ≢ Some token → IsOver before.past token →
+      IsOver now.past token
   ended-stays token apart has = record {
     named = has.named;
     ended = elim does.came [
@@ -299,8 +299,8 @@ module _ (before now : Telling) (old new : Phase) (does : Does before now old ne
   }
 
   -- one that dead did so
-  died-stays : (other : Phase) → AreApart old other → HasDied before other →
-      HasDied now other × AreApart new other
+  died-stays : (other : Phase) → AreTwo old other → HasDied before other →
+      HasDied now other × AreTwo new other
   died-stays (Begun runner state) apart dead =
       let own_apart : token_of old ≢ Some runner.token =
       λ has. apart runner.token has refl in (
@@ -312,7 +312,7 @@ module _ (before now : Telling) (old new : Phase) (does : Does before now old ne
 
   -- the second claim
   pub other-stays : KeepsOthers (moment_in before) (moment_in now) old new → (other : Phase) →
-      AreApart old other → TakesPart before other → TakesPart now other × AreApart new other
+      AreTwo old other → TakesPart before other → TakesPart now other × AreTwo new other
   other-stays others other apart (inl belongs) =
       let kept = others other belongs apart in (inl kept.belongs, kept.apart)
   other-stays others other apart (inr dead) =

@@ -15,7 +15,7 @@ use Rattle.acct_outside.specs.Life.{Life, unbegun, running, faulted, life, life_
 use Rattle.acct_outside.specs.Contract.{has_begun, was_begun}
 use Rattle.acct_outside.specs.Others.{Admission, ByOthers, none_came, one_came}
 use Rattle.suite_session.specs.declared.session.Phase.{Phase}
-use Rattle.suite_session.specs.Belongs.{AreApart}
+use Rattle.suite_session.specs.Belongs.{AreTwo}
 use Rattle.suite_session.specs.Session.{token_of}
 use Rattle.side_by_side.specs.Scenes.{Scene, TakePart, TakesPart}
 use Rattle.side_by_side.specs.Advances.{Advances, IsOutsider, KeepsLawful, by_sessions}
@@ -35,9 +35,9 @@ module _ (sessions : List Phase) (place : ℕ) (new : Phase) (low : place < leng
   ]
 
   -- what is apart from the new one and was apart is so
-  put-apart : AllPairs AreApart sessions →
-      ((k : ℕ) (d : Phase) → k < length sessions → k ≢ place → AreApart new (get_or sessions k d)) →
-      AllPairs AreApart (slice_set sessions place new)
+  put-apart : AllPairs AreTwo sessions →
+      ((k : ℕ) (d : Phase) → k < length sessions → k ≢ place → AreTwo new (get_or sessions k d)) →
+      AllPairs AreTwo (slice_set sessions place new)
   put-apart apart differs i j d less within = elim (cases_eq i place) [
     | inl first ↦ elim (cases_eq j place) [
       | inl second ↦ absurd (omega (arith, first, second, less))
@@ -59,9 +59,9 @@ module _ (sessions : List Phase) (place : ℕ) (new : Phase) (low : place < leng
       inside = subst (λ (n : ℕ). j < n) (length-set sessions place new) within
 
 -- each of two places apart holds another session
-pub apart-at : (sessions : List Phase) → AllPairs AreApart sessions → (k place : ℕ) (d : Phase) →
+pub apart-at : (sessions : List Phase) → AllPairs AreTwo sessions → (k place : ℕ) (d : Phase) →
     k < length sessions → place < length sessions → k ≢ place →
-    AreApart (get_or sessions place d) (get_or sessions k d)
+    AreTwo (get_or sessions place d) (get_or sessions k d)
 apart-at sessions apart k place d within low other = elim (cases_order k place) [
   | inl same ↦ absurd (other same)
   | inr (inl less) ↦ λ token has also. apart k place d less low token also has
@@ -149,23 +149,23 @@ module _ (before now : Scene) (place : ℕ) (old new : Phase) (low : place < len
 
   -- the first claim
   pub acted-part : TakePart before → TakesPart now.told new →
-      ((other : Phase) → AreApart old other → TakesPart before.told other →
-      TakesPart now.told other × AreApart new other) →
+      ((other : Phase) → AreTwo old other → TakesPart before.told other →
+      TakesPart now.told other × AreTwo new other) →
       TakePart now
   acted-part part takes stays = record {
     each = subst (All (TakesPart now.told)) (sym is)
         (put-all before.sessions place new low (TakesPart now.told) takes
         (λ k d within other. (rest k d within other).0));
-    apart = subst (AllPairs AreApart) (sym is)
+    apart = subst (AllPairs AreTwo) (sym is)
         (put-apart before.sessions place new low part.apart
         (λ k d within other. (rest k d within other).1));
   }
     where
       rest : (k : ℕ) (d : Phase) → k < length before.sessions → k ≢ place →
           TakesPart now.told (get_or before.sessions k d)
-          × AreApart new (get_or before.sessions k d)
+          × AreTwo new (get_or before.sessions k d)
       rest k d within other = stays (get_or before.sessions k d)
-          (subst (λ (session : Phase). AreApart session (get_or before.sessions k d)) (at d)
+          (subst (λ (session : Phase). AreTwo session (get_or before.sessions k d)) (at d)
           (apart-at before.sessions part.apart k place d within low other))
           (part.each k d within)
 

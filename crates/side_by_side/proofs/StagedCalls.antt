@@ -26,7 +26,7 @@ use Rattle.acct_outside.proofs.JournalLemmas.{refused}
 use Rattle.acct_outside.specs.Moment.{Moment}
 use Rattle.side_by_side.specs.Scenes.{Scene, TakePart, scene, telling}
 use Rattle.side_by_side.specs.Advances.{Advances, IsOutsider, by_sessions}
-use Rattle.side_by_side.specs.Staged.{Stage, scene_in, stage_of, staged_moment}
+use Rattle.side_by_side.specs.Staged.{Stage, scene_in, stage_with, staged_moment}
 use Rattle.side_by_side.specs.Lists.{CallsAtOnce, CallsNext, PlaysNext, next_list}
 use Rattle.side_by_side.specs.Steps.{TakesSteps}
 use Rattle.side_by_side.proofs.SceneLemmas.{advances-narrow, advances-none}
@@ -34,11 +34,11 @@ use Rattle.side_by_side.proofs.StagedLemmas.{OneCame, acting-outside, answering-
 
 -- the stage with another folder in memory and another journal
 abbrev pub with_files : MemoryFolder → List Entry → Stage → Stage
-with_files folder journal stage = stage_of folder stage.others stage.left journal
+with_files folder journal stage = stage_with folder stage.others stage.left journal
 
 -- the stage with another journal
 abbrev pub with_journal : List Entry → Stage → Stage
-with_journal journal stage = stage_of stage.files stage.others stage.left journal
+with_journal journal stage = stage_with stage.files stage.others stage.left journal
 
 -- the journal of the stage has this entry more
 abbrev pub NotesAt : Stage → List Entry → Entry → Type 0

@@ -29,7 +29,7 @@ use Rattle.suite_session.specs.declared.session.Phase.TheVariants.{Begun}
 use Rattle.suite_session.specs.Belongs.{OthersCame, of_others}
 use Rattle.suite_session.specs.Session.{token_of}
 use Rattle.suite_session.proofs.BelongsLemmas.{belonging-stays, present}
-use Rattle.side_by_side.specs.Scenes.{HasBegun, HasDied, HasEnded, Scene, TakePart, TakesPart, Telling, moment_in}
+use Rattle.side_by_side.specs.Scenes.{HasBegun, HasDied, IsOver, Scene, TakePart, TakesPart, Telling, moment_in}
 use Rattle.side_by_side.specs.Advances.{Advances, IsOutsider, KeepsLawful, by_sessions}
 use Rattle.side_by_side.specs.Staged.{staged}
 use Rattle.side_by_side.proofs.ActLemmas.{began-life, life-stays, token-named}
@@ -119,8 +119,8 @@ module _ (before now : Telling) (token : Token) (one : OneCame before now token)
   }
 
   -- what has ended has done so still
-  ended-still : (other : Token) → other ≢ token → HasEnded before.past other →
-      HasEnded now.past other
+  ended-still : (other : Token) → other ≢ token → IsOver before.past other →
+      IsOver now.past other
   ended-still other differs has = record {
     named = has.named;
     ended = elim one.came [

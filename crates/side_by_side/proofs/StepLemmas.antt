@@ -8,13 +8,13 @@ use Rattle.std.proofs.lemmas.List.{take_all, take_more}
 use Rattle.std.proofs.lemmas.Option.{get_or_from_slice_get, slice_get_within}
 use Rattle.memory_folder.specs.declared.memory.MemoryFolder.{MemoryFolder}
 use Rattle.suite_session.specs.declared.session.Phase.{Phase}
-use Rattle.suite_session.specs.Belongs.{AreApart}
+use Rattle.suite_session.specs.Belongs.{AreTwo}
 use Rattle.suite_session.specs.Session.{token_of}
 use Rattle.side_by_side.specs.declared.step.Step.{Step}
 use Rattle.side_by_side.specs.declared.step.Step.TheVariants.{Turn, Die}
 use Rattle.side_by_side.specs.Places.{place_of}
 use Rattle.side_by_side.specs.Scenes.{Scene, TakePart, TakesPart, Telling, has_ended, scene}
-use Rattle.side_by_side.specs.Steps.{Acts, ActsAmong, Goes, StaysAside, TakesAt, TakesFront, TakesStep, TakesSteps}
+use Rattle.side_by_side.specs.Steps.{Acts, ActsAmong, Goes, StaysAside, TakesAt, TakesFront, MovesBy, TakesSteps}
 use Rattle.side_by_side.specs.Advances.{Advances}
 use Rattle.side_by_side.proofs.ActLemmas.{Does, death-does, death-takes-part, does-nothing, other-stays, turn-does}
 use Rattle.side_by_side.proofs.SceneLemmas.{acted-advances, acted-part, advances-none, advances-then}
@@ -25,8 +25,8 @@ use Rattle.side_by_side.proofs.SceneLemmas.{acted-advances, acted-part, advances
 record ActsWell (before now : Telling) (old new : Phase) : Type 0 where
   does : Does before now old new
   takes_part : TakesPart now new
-  others : (other : Phase) → AreApart old other → TakesPart before other →
-      TakesPart now other × AreApart new other
+  others : (other : Phase) → AreTwo old other → TakesPart before other →
+      TakesPart now other × AreTwo new other
 
 module _ (before now : Telling) (old new : Phase) (part : TakesPart before old) where
   -- one that has ended stays aside
@@ -100,7 +100,7 @@ module _ (before : Scene) (part : TakePart before) (step : Step) (now : Scene) w
       }
 
   -- a step leads so
-  step-leads : TakesStep step before now → Leads before now
+  step-leads : MovesBy step before now → Leads before now
   step-leads = by-found (slice_get before.sessions (place_of step)) refl
     where
       by-found : (found : Option Phase) → slice_get before.sessions (place_of step) ≡ found →
@@ -125,12 +125,12 @@ steps-lead (step ∷ steps) before now part takes =
 -- the second claim
 pub step-more : (steps : List Step) (step : Step) (before between : Scene) (folder : MemoryFolder)
     (sessions : List Phase) → TakesSteps steps before between →
-    TakesStep step between (scene folder sessions) →
+    MovesBy step between (scene folder sessions) →
     TakesSteps (steps ++ step ∷ []) before (scene folder sessions)
 step-more [] step before between folder sessions same takes = (
   folder,
   sessions,
-  subst (λ (here : Scene). TakesStep step here (scene folder sessions)) same takes,
+  subst (λ (here : Scene). MovesBy step here (scene folder sessions)) same takes,
   refl,
 )
 step-more (first ∷ steps) step before between folder sessions taken takes = (
@@ -146,7 +146,7 @@ step-more (first ∷ steps) step before between folder sessions taken takes = (
 pub taken-more : (steps : List Step) (place : ℕ) (before between : Scene) (folder : MemoryFolder)
     (sessions : List Phase) (step : Step) → place < length steps →
     step ≡ get_or steps place step → TakesSteps (take place steps) before between →
-    TakesStep step between (scene folder sessions) →
+    MovesBy step between (scene folder sessions) →
     TakesSteps (take (place + 1) steps) before (scene folder sessions)
 taken-more steps place before between folder sessions step within is taken takes =
     subst (λ (done : List Step). TakesSteps done before (scene folder sessions))

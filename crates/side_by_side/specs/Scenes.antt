@@ -9,7 +9,7 @@ use Rattle.acct_outside.specs.Journal.{Entry}
 use Rattle.acct_outside.specs.Moment.{Moment, Past}
 use Rattle.suite_session.specs.declared.session.Phase.{Phase}
 use Rattle.suite_session.specs.declared.session.Phase.TheVariants.{Begun}
-use Rattle.suite_session.specs.Belongs.{AreApart, Belongs}
+use Rattle.suite_session.specs.Belongs.{AreTwo, Belongs}
 use Rattle.suite_session.specs.Session.{token_of}
 
 -- what a folder in memory tells: its history, how often it failed, and what it was asked
@@ -54,13 +54,13 @@ pub record HasBegun (past : Past) (token : Token) : Type 0 where
   pub begun : has_begun token past.history ≡ true
 
 -- the session of the token has begun, and its life has ended
-pub record HasEnded (past : Past) (token : Token) : Type 0 where
+pub record IsOver (past : Past) (token : Token) : Type 0 where
   pub named : token ≢ []
   pub ended : life token past.history ≡ ended
 
 -- the session died: it began and hasn't answered, and its life has ended
 abbrev pub HasDied : Telling → Phase → Type 0
-HasDied told (Begun runner state) = HasEnded told.past runner.token
+HasDied told (Begun runner state) = IsOver told.past runner.token
 HasDied told session = ⊥
 
 -- the session takes part: it belongs to the folder, or died there
@@ -70,4 +70,4 @@ TakesPart told session = Belongs (moment_in told) session ⊎ HasDied told sessi
 -- each session takes part, and no two have one token
 pub record TakePart (here : Scene) : Type 0 where
   pub each : All (TakesPart here.told) here.sessions
-  pub apart : AllPairs AreApart here.sessions
+  pub apart : AllPairs AreTwo here.sessions

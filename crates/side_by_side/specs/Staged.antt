@@ -18,8 +18,8 @@ pub record Stage : Type 0 where
   pub journal : List Entry
 
 -- the stage of these
-abbrev pub stage_of : MemoryFolder → List Phase → List (Vec Step) → List Entry → Stage
-stage_of files others left journal =
+abbrev pub stage_with : MemoryFolder → List Phase → List (Vec Step) → List Entry → Stage
+stage_with files others left journal =
     record { files = files; others = others; left = left; journal = journal }
 
 -- the folder with its other sessions

@@ -54,15 +54,15 @@ TakesAt step before now None = now ≡ before
 TakesAt step before now (Some old) = ActsAmong step before now old
 
 -- the step is taken
-abbrev pub TakesStep : Step → Scene → Scene → Type 0
-TakesStep step before now = TakesAt step before now (slice_get before.sessions (place_of step))
+abbrev pub MovesBy : Step → Scene → Scene → Type 0
+MovesBy step before now = TakesAt step before now (slice_get before.sessions (place_of step))
 
 -- the steps are taken, one after another; in between are scenes of a folder in memory
 abbrev pub TakesSteps : List Step → Scene → Scene → Type 0
 TakesSteps [] before now = now ≡ before
 TakesSteps (step ∷ steps) before now =
     (folder : MemoryFolder) × (sessions : List Phase)
-    × TakesStep step before (scene folder sessions)
+    × MovesBy step before (scene folder sessions)
     × TakesSteps steps (scene folder sessions) now
 
 -- a front of the steps is taken

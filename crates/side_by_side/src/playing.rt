@@ -1,7 +1,7 @@
 // The steps of a schedule, in order, over sessions and the folder in memory that they share.
 ghost use Rattle.std.specs.Prelude.{◌≡◌, OnErr, OnOk};
 ghost use Rattle.side_by_side.specs.Scenes.{TakePart, TakesPart, has_ended, scene, telling};
-ghost use Rattle.side_by_side.specs.Steps.{Acts, TakesFront, TakesStep, TakesSteps};
+ghost use Rattle.side_by_side.specs.Steps.{Acts, TakesFront, MovesBy, TakesSteps};
 ghost use Rattle.side_by_side.specs.Advances.{Advances};
 
 use crate::step::Step;
@@ -42,7 +42,7 @@ fn take<T: Tools>(
     folder: &mut MemoryFolder,
 ) -> Result<(), AllocError>
     requires { TakePart (scene folder.old sessions.old.items) }
-    ensures taken { OnOk result (TakesStep step.now (scene folder.old sessions.old.items)
+    ensures taken { OnOk result (MovesBy step.now (scene folder.old sessions.old.items)
         (scene folder.new sessions.new.items)) }
     ensures stays { OnErr result (scene folder.new sessions.new.items
         ≡ scene folder.old sessions.old.items) }

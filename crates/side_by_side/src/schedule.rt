@@ -19,7 +19,7 @@ pub(crate) struct Schedule {
 }
 
 impl Schedule {
-    ghost use Rattle.side_by_side.specs.Staged.{stage_of};
+    ghost use Rattle.side_by_side.specs.Staged.{stage_with};
     ghost use Rattle.side_by_side.specs.Lists.{PlaysNext, lists_left};
 
     /// The sessions take the steps of the next list; none where no list is left. The error says that
@@ -31,8 +31,8 @@ impl Schedule {
     ) -> Result<(), AllocError>
         requires { TakePart (scene folder.old sessions.old.items) }
         ensures played { (journal : List Entry) →
-            PlaysNext (stage_of folder.old sessions.old.items (lists_left self.old) journal)
-            (stage_of folder.new sessions.new.items (lists_left self.new) journal) }
+            PlaysNext (stage_with folder.old sessions.old.items (lists_left self.old) journal)
+            (stage_with folder.new sessions.new.items (lists_left self.new) journal) }
         ensures take_part { TakePart (scene folder.new sessions.new.items) }
         ensures whole { OnOk result (TakesSteps (next_list (lists_left self.old))
             (scene folder.old sessions.old.items) (scene folder.new sessions.new.items)) }

@@ -1,7 +1,7 @@
 // A folder in memory in which the sessions of a schedule take their steps between the calls of others.
 ghost use Rattle.std.specs.Prelude.{◌≡◌, []};
 ghost use Rattle.side_by_side.specs.Scenes.{TakePart, scene};
-ghost use Rattle.side_by_side.specs.Staged.{scene_in, stage_of};
+ghost use Rattle.side_by_side.specs.Staged.{scene_in, stage_with};
 
 use crate::schedule::Schedule;
 use crate::step::Step;
@@ -27,12 +27,12 @@ pub struct StagedFolder<T: Tools> {
 
 impl<T: Tools> Model for StagedFolder<T> {
     ghost use Rattle.side_by_side.specs.Scenes.{TakePart, scene};
-    ghost use Rattle.side_by_side.specs.Staged.{Stage, stage_of};
+    ghost use Rattle.side_by_side.specs.Staged.{Stage, stage_with};
     ghost use Rattle.side_by_side.specs.Lists.{lists_left};
 
     ghost Value = { Stage };
 
-    ghost view = { λ staged. stage_of staged.folder staged.others.items
+    ghost view = { λ staged. stage_with staged.folder staged.others.items
         (lists_left staged.schedule) staged.journal.entries };
 
     ghost invariant = { λ staged. TakePart (scene staged.folder staged.others.items) };
@@ -42,7 +42,7 @@ impl<T: Tools> StagedFolder<T> {
     /// A folder in which these sessions take part, with the lists of their steps.
     pub fn new(folder: MemoryFolder, others: Vec<Session<T>>, schedule: Vec<Vec<Step>>) -> Self
         requires { TakePart (scene folder others.items) }
-        ensures { result ≡ stage_of folder others.items schedule.items [] }
+        ensures { result ≡ stage_with folder others.items schedule.items [] }
     {
         StagedFolder {
             folder,

@@ -8,7 +8,7 @@ use Rattle.std.proofs.lemmas.List.{append_assoc}
 use Rattle.acct_text.specs.Lines.{Line}
 use Rattle.account_model.specs.declared.records.SubidRecord.{SubidRecord}
 use Rattle.account_model.specs.Records.{subid_format}
-use Rattle.subid_ranges.specs.Gathered.{GoesOn}
+use Rattle.subid_ranges.specs.Gathered.{GathersMore}
 use Rattle.subid_ranges.specs.RangeLines.{ranges_of}
 
 -- what is known is that of some ranges, and these with those left are all
@@ -30,7 +30,7 @@ module _ {G : Type 0} (is_of : List SubidRecord → G → Type 0) (all : List Su
   pub front-more :
       (line : Line) (left rest : List Line) (old new : G)
       → left ≡ line ∷ rest
-      → GoesOn is_of (cons_option (subid_format.read line.text) []) old new
+      → GathersMore is_of (cons_option (subid_format.read line.text) []) old new
       → IsOfFront is_of all (ranges_of left) old
       → IsOfFront is_of all (ranges_of rest) new
   front-more line left rest old new next goes_on before =

@@ -9,7 +9,7 @@ use Rattle.account_model.specs.Ids.{is_used}
 use Rattle.id_choice.specs.declared.runs.Run.{Run}
 use Rattle.id_choice.specs.Runs.{HasNothingUpTo, IsLastUpTo}
 use Rattle.subid_ranges.specs.declared.taken.Taken.{Taken}
-use Rattle.subid_ranges.specs.Numbers.{MeetsRun, MissesRun, is_of}
+use Rattle.subid_ranges.specs.Numbers.{MeetsRun, MissesRun, is_in_run}
 use Rattle.subid_ranges.specs.Taken.{AreFree, AreMet}
 
 -- a number of a run passes its test
@@ -17,7 +17,7 @@ of-run :
     (run : Run) (number : ℕ)
     → run.first ≤ number
     → number ≤ run.last
-    → is_of (Some run) number ≡ true
+    → is_in_run (Some run) number ≡ true
 of-run run number above below =
     and_from (nat_le run.first number) (nat_le number run.last) (le-leb run.first number above)
     (le-leb number run.last below)
@@ -28,7 +28,7 @@ not-of :
     → MissesRun found first last
     → first ≤ number
     → number ≤ last
-    → is_of found number ≡ false
+    → is_in_run found number ≡ false
 not-of None first last number misses above below = refl
 not-of (Some run) first last number misses above below = elim (cases_lt run.last first) [
   | inl before ↦
@@ -52,8 +52,8 @@ module _ (taken : Taken) (first last : ℕ) where
     ordered = omega (arith, ordered meets.run meets.is, meets.ends);
     reaches = meets.reaches;
     filled = λ number above below.
-        or_right (is_used taken.runs number) (is_of taken.newest number)
-        (ap (λ found. is_of found number) meets.is
+        or_right (is_used taken.runs number) (is_in_run taken.newest number)
+        (ap (λ found. is_in_run found number) meets.is
         ∙ of-run meets.run number above (omega (arith, below, meets.ends)));
   }
 
@@ -71,7 +71,7 @@ module _ (taken : Taken) (first last : ℕ) where
           ordered = omega (arith, whole.ordered, meets.ends);
           reaches = meets.reaches;
           filled = λ number above below.
-              or_left (is_used taken.runs number) (is_of taken.newest number)
+              or_left (is_used taken.runs number) (is_in_run taken.newest number)
               (whole.filled number above (omega (arith, below, meets.ends)));
         }
 
@@ -100,7 +100,7 @@ module _ (taken : Taken) (first last : ℕ) where
       → MissesRun found first last
       → AreFree taken first last
   none-met found up newest misses = λ number above below.
-      or_from (is_used taken.runs number) (is_of taken.newest number)
+      or_from (is_used taken.runs number) (is_in_run taken.newest number)
       (unused-up-to taken.runs found first last up misses number above below)
       (not-of taken.newest first last number newest above below)
 

@@ -21,7 +21,7 @@ use Rattle.acct_tables.proofs.EditedFiles.{edit-found}
 use Rattle.id_choice.specs.Runs.{AreThoseOfRuns, is_run}
 use Rattle.id_choice.specs.declared.runs.Run.{Run}
 use Rattle.subid_ranges.specs.declared.taken.Taken.{Taken}
-use Rattle.subid_ranges.specs.Numbers.{is_of, is_ranged}
+use Rattle.subid_ranges.specs.Numbers.{is_in_run, is_ranged}
 use Rattle.subid_ranges.specs.RangeLines.{new_range, ranges_of, with_range}
 use Rattle.subid_ranges.specs.Taken.{AreRunsOf, TakesThoseOf, is_taken}
 use Rattle.subid_ranges.proofs.FileLines.{range-written}
@@ -107,7 +107,7 @@ pub runs-take :
     → TakesThoseOf ranges taken
 runs-take ranges runs taken are those none = record {
   same = λ number.
-      ap (λ newest. is_used taken.runs number || is_of newest number) none
+      ap (λ newest. is_used taken.runs number || is_in_run newest number) none
       ∙ or-false (is_used taken.runs number)
       ∙ those number
       ∙ are.same number;

@@ -7,9 +7,9 @@ use Rattle.account_model.specs.Ids.{in_range}
 use Rattle.id_choice.specs.declared.runs.Run.{Run}
 
 -- whether the number is one of the run, where there is a run
-abbrev pub is_of : Option Run → ℕ → Bool
-is_of None number = false
-is_of (Some run) number = in_range run.first run.last number
+abbrev pub is_in_run : Option Run → ℕ → Bool
+is_in_run None number = false
+is_in_run (Some run) number = in_range run.first run.last number
 
 -- whether one of the ranges has the number
 abbrev pub is_ranged : List SubidRecord → ℕ → Bool

@@ -5,11 +5,11 @@ use Rattle.account_model.specs.Ids.{is_used}
 use Rattle.id_choice.specs.Runs.{is_run}
 use Rattle.id_choice.specs.declared.runs.Run.{Run}
 use Rattle.subid_ranges.specs.declared.taken.Taken.{Taken}
-use Rattle.subid_ranges.specs.Numbers.{is_of, is_ranged}
+use Rattle.subid_ranges.specs.Numbers.{is_in_run, is_ranged}
 
 -- whether the number is taken: it is one of the runs, or of the newest range
 abbrev pub is_taken : Taken → ℕ → Bool
-is_taken taken number = is_used taken.runs number || is_of taken.newest number
+is_taken taken number = is_used taken.runs number || is_in_run taken.newest number
 
 -- the numbers taken are those of the ranges
 pub record TakesThoseOf (ranges : List SubidRecord) (taken : Taken) : Type 0 where

@@ -7,7 +7,7 @@ ghost use Rattle.acct_text.specs.Lines.{lines_of};
 ghost use Rattle.acct_text.specs.Pieces.{Lacks};
 ghost use Rattle.account_model.specs.Records.{greatest_id, last_id, subid_format};
 ghost use Rattle.account_model.specs.declared.records.SubidRecord.{SubidRecord};
-ghost use Rattle.subid_ranges.specs.Gathered.{GoesOn};
+ghost use Rattle.subid_ranges.specs.Gathered.{GathersMore};
 ghost use Rattle.subid_ranges.specs.RangeLines.{ranges_of};
 
 use crate::range_line::range_in;
@@ -24,7 +24,7 @@ pub(crate) trait Gathered: Drop {
     fn note(&mut self, alloc: Global, range: &SubidLine<'_>) -> Result<(), AllocError>
         requires some { 0 < range.now.count }
         requires last { last_id (subid_shown range.now) ≤ greatest_id }
-        ensures { OnOk result (GoesOn is_of (subid_shown range.now ∷ []) self.old self.new) };
+        ensures { OnOk result (GathersMore is_of (subid_shown range.now ∷ []) self.old self.new) };
 }
 
 /// What is known of the ranges of a file with these bytes, from none on.
@@ -47,7 +47,7 @@ fn note_line<G: Gathered>(
     line: &FileLine<'_>,
 ) -> Result<(), AllocError>
     requires { Lacks newline line.now.text.now }
-    ensures { OnOk result (GoesOn G.is_of
+    ensures { OnOk result (GathersMore G.is_of
         (cons_option (subid_format.read line.now.text.now) []) known.old known.new) }
 {
     match range_in(line.text) {

@@ -7,7 +7,7 @@ ghost use Rattle.account_model.specs.Records.{greatest_id, last_id, subid_format
 ghost use Rattle.account_model.specs.Written.{IsWritten};
 ghost use Rattle.account_model.specs.declared.records.SubidRecord.{SubidRecord};
 ghost use Rattle.account_model.specs.FreeRange.{free_range};
-ghost use Rattle.subid_ranges.specs.Gathered.{GoesOn};
+ghost use Rattle.subid_ranges.specs.Gathered.{GathersMore};
 ghost use Rattle.subid_ranges.specs.RangeLines.{ranges_of};
 
 use crate::gathered::{Gathered, gather};
@@ -49,7 +49,7 @@ impl RangeNumbers {
     /// from then on.
     pub fn add(&mut self, alloc: Global, range: &SubidRecord) -> Result<(), AllocError>
         requires { IsWritten subid_format range.now }
-        ensures { OnOk result (GoesOn AreNumbersOf (range.now ∷ []) self.old self.new) }
+        ensures { OnOk result (GathersMore AreNumbersOf (range.now ∷ []) self.old self.new) }
     {
         let line = SubidLine {
             owner: range.owner.as_slice(),

@@ -38,8 +38,8 @@ message_of tool (OutputFault stage) = []
 message_of tool cause = message tool (reason_text cause)
 
 -- the answer of the tool to the cause
-abbrev pub told : Tool → Cause → Answer
-told tool cause = says cause (status_of tool cause) (message_of tool cause)
+abbrev pub answer_for : Tool → Cause → Answer
+answer_for tool cause = says cause (status_of tool cause) (message_of tool cause)
 
 -- ---- Words
 

@@ -1,7 +1,7 @@
 // What a command answers: its outcome, with the texts for the two streams.
 ghost use Rattle.std.specs.Prelude.{◌≡◌, IfOk};
 ghost use Rattle.account_model.specs.WordMessages.{faulty_tool};
-ghost use Rattle.suite_answers.specs.Answers.{says, told, told_line, told_words};
+ghost use Rattle.suite_answers.specs.Answers.{says, answer_for, told_line, told_words};
 
 use crate::{Cause, Outcome, message};
 use account_model::{Tool, WordFault};
@@ -30,7 +30,7 @@ impl Answer {
     /// For `Changed`, `Same`, `Refused`, `RefusedLine`, `Syntax` and `BatchSyntax` the status and the
     /// texts are empty here: they come with the decision and with the words.
     pub fn of_cause(alloc: Global, tool: Tool, cause: Cause) -> Result<Self, AllocError>
-        ensures { IfOk result (λ answer. answer ≡ told tool cause) }
+        ensures { IfOk result (λ answer. answer ≡ answer_for tool cause) }
     {
         let err = message::of_cause(alloc, tool, &cause)?;
         let status = cause.status(tool);

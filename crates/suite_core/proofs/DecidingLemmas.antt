@@ -23,7 +23,7 @@ use Rattle.acct_text.specs.Tables.{all_tables, same_table}
 use Rattle.intent_file.specs.Intent.{listed_in}
 use Rattle.suite_rules.proofs.Changed.{listed-changed}
 use Rattle.plan_tool.specs.SeenChanges.{files_with, new_bytes}
-use Rattle.account_model.specs.PlanTexts.{told}
+use Rattle.account_model.specs.PlanTexts.{plan_text}
 use Rattle.account_model.specs.Request.{Request}
 use Rattle.account_model.specs.declared.plan_form.PlanForm.{PlanForm}
 use Rattle.suite_answers.specs.declared.cause.Cause.TheVariants.{Same as IsSame}
@@ -369,7 +369,7 @@ agreed tool files None _ _ (changes written tables are large new) =
 agreed tool files (Some form) _ _ (changes written tables are large new) =
     rw (large, decided_by) (ap (λ (after : Files). Stay (record {
       outcome = record { status = written.status; cause = IsSame };
-      out = told form files after written.status written.output written.error;
+      out = plan_text form files after written.status written.output written.error;
       err = written.error;
     })) new)
 

@@ -30,13 +30,13 @@ abbrev pub AreWithoutSharing : List Commitment → Type 0
 AreWithoutSharing commands = AllByRecursion AsksForOwnIds commands
 
 -- what the command's words ask for doesn't do this, and neither does a line of a batch
-abbrev pub AsksForNone : (Request → Bool) → Commitment → Type 0
-AsksForNone does one =
+abbrev pub AsksForNoSuch : (Request → Bool) → Commitment → Type 0
+AsksForNoSuch does one =
     (request : Request) → Asks one.command.words request → NoneDoes does request one.command.input
 
 -- no committed command does it
 abbrev pub AreNone : (Request → Bool) → List Commitment → Type 0
-AreNone does commands = AllByRecursion (AsksForNone does) commands
+AreNone does commands = AllByRecursion (AsksForNoSuch does) commands
 
 -- ---- No new meeting
 

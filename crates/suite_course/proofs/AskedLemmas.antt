@@ -20,7 +20,7 @@ use Rattle.suite_session.specs.Texts.{GoesOn, LeadTo}
 use Rattle.suite_session.specs.Turning.{IsFirst, SessionTurns}
 use Rattle.suite_session.proofs.TextCalls.{lead-first, lead-last, lead-then, stages-texts}
 use Rattle.suite_course.specs.Asked.{AreWithin, ShowsLower, WasDone, calls_asked}
-use Rattle.suite_course.specs.Course.{HasAsked, HasMade, MadeWithin}
+use Rattle.suite_course.specs.Course.{HasAsked, HasMadeCalls, MadeWithin}
 
 -- ---- The lower locks that were shown
 
@@ -73,11 +73,11 @@ module _ (call : Call) (reply : Reply) (calls : List Entry) (one_other : others_
     (no_append : appends_by call ≡ 0) where
   nears-made : (old next : State) → 53 + most_lower ≤ calls_left old → Nears old next →
       LeadTo (call ∷ calls_asked calls) next →
-      HasMade old calls → HasMade next (makes call reply ∷ calls)
+      HasMadeCalls old calls → HasMadeCalls next (makes call reply ∷ calls)
   nears-made old next early counts leads made = by-next counts.next
     where
       by-next : IsToList next ⊎ (calls_left next ≤ watching_calls) →
-          HasMade next (makes call reply ∷ calls)
+          HasMadeCalls next (makes call reply ∷ calls)
       by-next (inl to_list) = record {
         lower = made.lower;
         most = made.most;
@@ -102,8 +102,8 @@ module _ (call : Call) (reply : Reply) (calls : List Entry) (one_other : others_
 -- one call more behind it
 fewer-made : (call : Call) (reply : Reply) (calls : List Entry) (old next : State) →
     state_call old ≡ call → (IsToList old → ⊥) → LeavesFewer old next →
-    LeadTo (call ∷ calls_asked calls) next → HasMade old calls →
-    HasMade next (makes call reply ∷ calls)
+    LeadTo (call ∷ calls_asked calls) next → HasMadeCalls old calls →
+    HasMadeCalls next (makes call reply ∷ calls)
 fewer-made call reply calls old next is behind fewer leads made = record {
   lower = made.lower;
   most = made.most;
@@ -123,7 +123,7 @@ fewer-made call reply calls old next is behind fewer leads made = record {
     by-shown (inr shows) = inr (shown-on (makes call reply) calls made.lower shows)
 
 -- with the next call they lead to what the next state has staged
-call-leads : (calls : List Entry) (old next : State) → GoesOn old next → HasMade old calls →
+call-leads : (calls : List Entry) (old next : State) → GoesOn old next → HasMadeCalls old calls →
     LeadTo (state_call old ∷ calls_asked calls) next
 call-leads calls old next goes_on made =
     lead-then (calls_asked calls) old next goes_on made.leads
@@ -132,8 +132,8 @@ call-leads calls old next goes_on made =
 turn-made : (told : Option Past) (runner : Runner) (reply : Reply)
     (calls older journal : List Entry)
     (old next : State) → journal ≡ makes (state_call old) reply ∷ older →
-    CountsTo told journal runner old next → HasMade old calls →
-    HasMade next (makes (state_call old) reply ∷ calls)
+    CountsTo told journal runner old next → HasMadeCalls old calls →
+    HasMadeCalls next (makes (state_call old) reply ∷ calls)
 turn-made told runner reply calls older journal (Looking looking) next is counts made =
     nears-made _ reply calls refl refl (Looking looking) next (omega arith) counts
     (call-leads calls (Looking looking) next counts.goes_on made) made
@@ -162,7 +162,7 @@ turn-made told runner reply calls older journal old next is counts made =
 
 -- the begin
 first-made : (runner : Runner) (command : Command) (reply : Reply) (state : State) →
-    IsFirst runner state → HasMade state (makes (begins command) reply ∷ [])
+    IsFirst runner state → HasMadeCalls state (makes (begins command) reply ∷ [])
 first-made runner command reply (Looking looking) is = record {
   lower = most_lower;
   most = omega arith;
@@ -193,7 +193,7 @@ one-within command reply = record {
 
 -- the answer
 pub last-made : (reply : Reply) (status : ℕ) (calls : List Entry) (answer : Answer) →
-    HasMade (Answering answer) calls → AreWithin (makes (answers status) reply ∷ calls)
+    HasMadeCalls (Answering answer) calls → AreWithin (makes (answers status) reply ∷ calls)
 last-made reply status calls answer made = record {
   lower = made.lower;
   shows = shown-on (makes (answers status) reply) calls made.lower (by-shown made.shows);
@@ -252,7 +252,7 @@ asked-turn entry between now (Waiting question) (Begun runner state) asked none 
     let asks = turns.1.asks in
     one-more entry between now (Waiting question) (Begun runner state) asked none _ _ asks
     (λ going. goes-done between now _ state asks going)
-    (alone-begun asked.calls (makes (begins question.command) asks.reply) (HasMade state)
+    (alone-begun asked.calls (makes (begins question.command) asks.reply) (HasMadeCalls state)
     asked.within (first-made runner _ asks.reply state turns.3))
 asked-turn entry between now (Waiting question) (Unbegun tool answer) asked none turns =
     let asks = turns.2 in

@@ -37,7 +37,7 @@ use Rattle.suite_answers.specs.declared.cause.Cause.{Cause}
 use Rattle.suite_answers.specs.declared.cause.Cause.TheVariants.{Syntax, BatchSyntax, Held, Gone, Raced, Outrun, LockDamaged, Exhausted, IntentDamaged, TooLarge, DiskFault, InputFault, OutputFault, ClockFault, Memory}
 use Rattle.suite_answers.specs.declared.cause.Outcome.{Outcome}
 use Rattle.suite_answers.specs.declared.answer.Answer.{Answer}
-use Rattle.suite_answers.specs.Answers.{told}
+use Rattle.suite_answers.specs.Answers.{answer_for}
 use Rattle.suite_answers.specs.Reasons.{stage_of}
 use Rattle.suite_session.specs.Runner.{LinesAsk, Question}
 use Rattle.acct_outside.specs.Moment.{Past, Moment}
@@ -50,7 +50,7 @@ use Rattle.suite_course.specs.Streams.{Streams, Serves}
 use Rattle.suite_course.proofs.StreamsLemmas.{serves-failed}
 use Rattle.suite_course.specs.declared.supplies.Lack.{Lack}
 use Rattle.suite_course.specs.declared.supplies.Lack.TheVariants.{Supply, Line}
-use Rattle.suite_course.specs.Supplies.{Supplies, IsTooMuch, IsUnsupplied, Lacks, LacksNothing, TakesAll, told_lack}
+use Rattle.suite_course.specs.Supplies.{Supplies, IsTooMuch, IsUnsupplied, IsLacking, LacksNothing, TakesAll, told_lack}
 use Rattle.suite_course.specs.Alone.{AnswersOnOld, IsAlone}
 use Rattle.suite_course.specs.Shows.{IsShownAt}
 use Rattle.suite_course.specs.Top.{Answered, EndsEarly, EndsUnsupplied, ExtendsLawfully, IfLawful, RunsOrNot, StreamsServe, WhereLawful}
@@ -298,7 +298,7 @@ never-faulty tool (Some all) (Some rest) bytes input faulty is ask batch came fi
     cc wrong
 
 -- so what it lacks is memory
-lack-memory : (tool : Tool) (before now : Supplies) (lack : Lack) → Lacks tool before now lack →
+lack-memory : (tool : Tool) (before now : Supplies) (lack : Lack) → IsLacking tool before now lack →
     LacksNothing tool before now → (told_lack tool lack).outcome.cause ≡ Memory Before
 lack-memory tool before now (Supply cause) due lacks =
     unsupplied-memory tool before now cause due lacks
@@ -309,7 +309,7 @@ lack-memory tool before now (Line faulty) due lacks =
 
 -- so the outcome says, where the streams serve
 unsupplied-complete : (tool : Tool) (before now : Supplies) (was holds : Streams)
-    (outcome : Outcome) (lack : Lack) → Lacks tool before now lack →
+    (outcome : Outcome) (lack : Lack) → IsLacking tool before now lack →
     EndsEarly (Some tool) (told_lack tool lack) was holds outcome →
     LacksNothing tool before now → StreamsServe was holds → outcome.cause ≡ Memory Before
 unsupplied-complete tool before now was holds outcome lack due early lacks serve =
@@ -331,7 +331,7 @@ unsupplied-complete tool before now was holds outcome lack due early lacks serve
 
 -- the second claim
 pub ends-unsupplied : (tool : Tool) (before now : Supplies) (was holds : Streams)
-    (outcome : Outcome) (lack : Lack) → Lacks tool before now lack →
+    (outcome : Outcome) (lack : Lack) → IsLacking tool before now lack →
     EndsEarly (Some tool) (told_lack tool lack) was holds outcome →
     EndsUnsupplied tool before now was holds outcome
 ends-unsupplied tool before now was holds outcome lack due early = record {
@@ -344,7 +344,7 @@ ends-unsupplied tool before now was holds outcome lack due early = record {
 -- so it is for this cause, where the input or the day is what lacks; who calls knows no `Lack`
 pub ends-without_supply : (tool : Tool) (before now : Supplies) (was holds : Streams)
     (outcome : Outcome) (cause : Cause) → IsUnsupplied tool before now cause →
-    EndsEarly (Some tool) (told tool cause) was holds outcome →
+    EndsEarly (Some tool) (answer_for tool cause) was holds outcome →
     EndsUnsupplied tool before now was holds outcome
 ends-without_supply tool before now was holds outcome cause due early =
     ends-unsupplied tool before now was holds outcome (Supply cause) due early

@@ -28,9 +28,9 @@ use Rattle.suite_session.specs.Deeds.{AreOfTools}
 use Rattle.suite_session.specs.Reports.{RunsFree}
 use Rattle.suite_session.specs.Staging.{HasMovedAll}
 use Rattle.suite_session.specs.Stands.{HasLeft, IsDecided, IsStopped}
-use Rattle.suite_session.specs.Telling.{DropsNothing, Tells}
+use Rattle.suite_session.specs.Telling.{DropsNothing, Covers}
 use Rattle.suite_session.proofs.FreeLemmas.{free-uncalled}
-use Rattle.suite_course.specs.Alone.{IsAlone, Leaves}
+use Rattle.suite_course.specs.Alone.{IsAlone, LeavesFolder}
 use Rattle.suite_course.specs.Shows.{IsShownAt}
 use Rattle.suite_course.proofs.AloneLocks.{alone-lock, alone-intent-none}
 use Rattle.suite_course.proofs.AloneBackups.{alone-backups}
@@ -50,7 +50,7 @@ decided-quiet (TooLarge (File Defs)) decided stopped = stopped
 decided-quiet cause decided stopped = absurd decided
 
 -- what tells a fault of the folder, or what comes later, was stopped
-stops-later : (cause : Cause) → Tells cause (DiskFault Before) → IsStopped cause
+stops-later : (cause : Cause) → Covers cause (DiskFault Before) → IsStopped cause
 stops-later cause (inl is) = subst IsStopped (sym is) tt
 stops-later (DiskFault stage) (inr later) = tt
 stops-later (OutputFault stage) (inr later) = tt
@@ -105,7 +105,7 @@ module _ (deeds : SuiteDeeds) (asked : Question) (first : Folder) (past : Past) 
       (is_report asked.request ≡ true → RunsFree token past.history) →
       DropsNothing token cause past.history → HasCome token past.history →
       ((IsStopped cause → ⊥) → HasMovedAll (standing token past.history)) →
-      Leaves asked first old past.history token cause
+      LeavesFolder asked first old past.history token cause
   leaves-alone ours old alone cause commits shown left wrote free drops come moved = record {
     report = λ is. folder-stays deeds first past.history lawful asked token
         (free-uncalled token past.history (free is).free) old alone;

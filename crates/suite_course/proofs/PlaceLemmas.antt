@@ -25,7 +25,7 @@ use Rattle.suite_rules.specs.Knowledge.{Seen}
 use Rattle.suite_rules.specs.Standing.{standing}
 use Rattle.suite_rules.specs.Lawful.{Lawful}
 use Rattle.suite_rules.specs.Committed.{Commitment, commitment_of, committed, place, folded}
-use Rattle.suite_rules.specs.Laws.{HasLooked, IsCleanKeeper}
+use Rattle.suite_rules.specs.Laws.{KeeperSaw, IsCleanKeeper}
 use Rattle.suite_rules.proofs.Places.{places-stay}
 use Rattle.suite_rules.proofs.Once.{committed-once, kept-stays, once}
 use Rattle.suite_rules.proofs.Cut.{lawful-prefix}
@@ -67,7 +67,7 @@ module _ (deeds : SuiteDeeds) (first : Folder) (history : History)
   abbrev at_place : ℕ → Contents
   at_place number = folded deeds first (place number (committed history))
 
-  module _ (number : ℕ) (seen : Seen) (looked : HasLooked history token number seen) where
+  module _ (number : ℕ) (seen : Seen) (looked : KeeperSaw history token number seen) where
     -- what was seen of all files is the place
     seen-all : (files : Files) (defs : Option Bytes) (answer : Answer) →
         ((table : Tab) → seen.file (Table table) ≡ Some (table_of files table)) →
@@ -116,7 +116,7 @@ module _ (deeds : SuiteDeeds) (first : Folder) (history : History)
     some-stayed : AnswersSome runner answer (standing token history) → WasKeeper token history →
         HasStayed deeds asked first history token answer
     some-stayed some was =
-        let looked : HasLooked history token some.number some.seen =
+        let looked : KeeperSaw history token some.number some.seen =
         record { kept = some.kept; uncommitted = uncalled; clean = some.clean } in
         let there : IsAnswerAt deeds asked first history some.number answer =
         place-answer free some.number some.kept some.number answer

@@ -23,7 +23,7 @@ use Rattle.suite_session.specs.Reports.{RunsFree}
 use Rattle.suite_session.specs.Answers.{Says}
 use Rattle.suite_session.specs.Writing.{WroteDue}
 use Rattle.suite_session.specs.Belongs.{Belongs, CameTo}
-use Rattle.suite_session.specs.Bound.{HasCalled, HasCalledFree, IsWithin, calls_of}
+use Rattle.suite_session.specs.Bound.{HasCalled, HasCalledFree, IsWithinBound, calls_of}
 use Rattle.suite_session.specs.Counts.{CountsLower}
 use Rattle.suite_session.specs.Deeds.{AreOfTools}
 use Rattle.suite_session.specs.Due.{IsDue}
@@ -45,10 +45,10 @@ use Rattle.suite_course.proofs.PlanLemmas.{plans-exactly}
 
 -- with no call but that of the answer left, the calls are within the bound
 called-within : (token : Token) (answer : Answer) (history : History) →
-    HasCalled token (Answering answer) history → IsWithin token history
+    HasCalled token (Answering answer) history → IsWithinBound token history
 called-within token answer history called = by-counts called.counts
   where
-    by-counts : ⊥ ⊎ CountsLower token history called.lower → IsWithin token history
+    by-counts : ⊥ ⊎ CountsLower token history called.lower → IsWithinBound token history
     by-counts (inl never) = absurd never
     by-counts (inr counts) = record {
       lower = called.lower;
@@ -74,7 +74,7 @@ module _ (deeds : SuiteDeeds) (ours : AreOfTools deeds) where
         Says runner.asked answer answer.outcome.cause → IsDue runner answer past →
         ((IsStopped answer.outcome.cause → ⊥) → HasLeft runner.token answer.outcome.cause past) →
         DropsNothing runner.token answer.outcome.cause past.history →
-        IsWithin runner.token past.history → WroteDue runner.token past.history →
+        IsWithinBound runner.token past.history → WroteDue runner.token past.history →
         (is_report runner.asked.request ≡ true → RunsFree runner.token past.history) →
         LooksOnce runner.token past.history → HasCome runner.token past.history →
         ((IsStopped answer.outcome.cause → ⊥) →

@@ -70,7 +70,7 @@ IsUnstaged before now = (name : Name) → is_staging name ≡ true →
 -- report the folder as it was; any other its own lock, which is free, where it kept one, nothing at a
 -- staging name that didn't stand there before, no intent, where its tool decided, and backups of what it
 -- changed. A fault or want of memory may leave more.
-pub record Leaves (asked : Question) (first : Folder) (old new : History) (token : Token)
+pub record LeavesFolder (asked : Question) (first : Folder) (old new : History) (token : Token)
     (cause : Cause) : Type 0 where
   pub report : is_report asked.request ≡ true → after first new ≡ after first old
   pub lock : (IsStopped cause → ⊥) → (number : ℕ) →

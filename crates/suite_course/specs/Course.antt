@@ -51,7 +51,7 @@ made_in phase made = made
 
 -- On its way a session has made these calls: with those that are left they are within the bound, and they
 -- lead to what it has staged. Before its second listing as many lower locks are counted as one can show.
-pub record HasMade (state : State) (calls : List Entry) : Type 0 where
+pub record HasMadeCalls (state : State) (calls : List Entry) : Type 0 where
   pub lower : ℕ
   pub most : lower ≤ most_lower
   pub shows : IsToList state ⊎ ShowsLower calls lower
@@ -62,7 +62,7 @@ pub record HasMade (state : State) (calls : List Entry) : Type 0 where
 -- these are the calls of a session, which come within the bound
 abbrev pub MadeWithin : Phase → List Entry → Type 0
 MadeWithin (Waiting question) calls = calls ≡ []
-MadeWithin (Begun runner state) calls = HasMade state calls
+MadeWithin (Begun runner state) calls = HasMadeCalls state calls
 MadeWithin phase calls = AreWithin calls
 
 -- since an entry the session asked the folder for calls alone; none was refused while it has no answer

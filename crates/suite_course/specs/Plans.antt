@@ -6,7 +6,7 @@ use Rattle.acct_outside.specs.Tokens.{Token}
 use Rattle.acct_outside.specs.Folder.{Folder, settings_file}
 use Rattle.acct_outside.specs.History.{History}
 use Rattle.account_model.specs.declared.plan_form.PlanForm.{PlanForm}
-use Rattle.account_model.specs.Answer.{Answer as ToolAnswer, answer, planned_cause, planned_output}
+use Rattle.account_model.specs.Answer.{Answer as ToolAnswer, answer, planned_cause, plan_output}
 use Rattle.account_model.specs.Request.{carried_out}
 use Rattle.account_model.specs.SeenFiles.{seen_files}
 use Rattle.suite_rules.specs.Deeds.{SuiteDeeds}
@@ -32,7 +32,7 @@ pub record IsPlanOf (form : PlanForm) (files : Files) (command : ToolAnswer) (gi
     : Type 0 where
   pub status : given.outcome.status ≡ command.status
   pub message : given.err ≡ command.error
-  pub output : given.out ≡ planned_output form files command
+  pub output : given.out ≡ plan_output form files command
   pub cause : given.outcome.cause ≡ cause_of_answer (planned_cause command.cause)
 
 -- so it is on what the command sees of the files

@@ -17,7 +17,7 @@ use Rattle.suite_answers.specs.declared.cause.Which.TheVariants.{Input}
 use Rattle.suite_answers.specs.declared.cause.Cause.{Cause}
 use Rattle.suite_answers.specs.declared.cause.Cause.TheVariants.{TooLarge, InputFault, ClockFault, Memory}
 use Rattle.suite_answers.specs.declared.answer.Answer.{Answer}
-use Rattle.suite_answers.specs.Answers.{told, told_line}
+use Rattle.suite_answers.specs.Answers.{answer_for, told_line}
 use Rattle.suite_session.specs.Runner.{LinesAsk}
 use Rattle.suite_course.specs.declared.supplies.Lack.{Lack}
 use Rattle.suite_course.specs.declared.supplies.Lack.TheVariants.{Supply, Line}
@@ -144,14 +144,14 @@ LacksLine tool input (Supply (Memory Before)) = ⊤
 LacksLine tool input lack = ⊥
 
 -- why the command doesn't run: it has no input or no day, or a line of its input asks for nothing
-abbrev pub Lacks : Tool → Supplies → Supplies → Lack → Type 0
-Lacks tool before now (Supply cause) = IsUnsupplied tool before now cause
-Lacks tool before now (Line faulty) =
+abbrev pub IsLacking : Tool → Supplies → Supplies → Lack → Type 0
+IsLacking tool before now (Supply cause) = IsUnsupplied tool before now cause
+IsLacking tool before now (Line faulty) =
     (is_batch tool ≡ true) × LacksRequest before now faulty
 
 -- the answer that tells it
 abbrev pub told_lack : Tool → Lack → Answer
-told_lack tool (Supply cause) = told tool cause
+told_lack tool (Supply cause) = answer_for tool cause
 told_lack tool (Line faulty) = told_line faulty
 
 -- nothing lacks: no fault of the source or of the clock was counted, and what the source had left, where

@@ -37,11 +37,11 @@ use Rattle.suite_session.specs.Locking.{cause_of_fault}
 use Rattle.suite_course.specs.Asked.{AsksThere}
 use Rattle.suite_course.specs.Open.{StandsOpen}
 use Rattle.suite_course.specs.Streams.{Streams, Serves}
-use Rattle.suite_course.specs.Alone.{AnswersOnOld, IsAlone, Leaves}
+use Rattle.suite_course.specs.Alone.{AnswersOnOld, IsAlone, LeavesFolder}
 use Rattle.suite_course.specs.Shows.{IfReportsFreely, IsAlwaysSettled, Shows}
 use Rattle.suite_course.specs.Plans.{IfPlansExactly}
 use Rattle.suite_course.specs.declared.supplies.Lack.{Lack}
-use Rattle.suite_course.specs.Supplies.{Supplies, Lacks, LacksNothing, told_lack}
+use Rattle.suite_course.specs.Supplies.{Supplies, IsLacking, LacksNothing, told_lack}
 
 -- ---- What the history shows
 
@@ -99,7 +99,7 @@ pub record HasRun (asked : Question) (admits : Admission) (given : Answer) (outc
       HasLeft token given.outcome.cause (record { first = first; history = new })
   pub moved : (IsStopped given.outcome.cause → ⊥) → HasMovedAll (standing token new)
   pub leaves : IfLawful admits first old (λ deeds. (earlier : History) →
-      IsAlone token earlier new → Leaves asked first earlier new token given.outcome.cause)
+      IsAlone token earlier new → LeavesFolder asked first earlier new token given.outcome.cause)
 
 -- No session began in this call: new events were admitted from others, and then at most the one begin
 -- of what was asked, which failed. The answer tells that fault, or that there was no memory, be it for
@@ -124,7 +124,8 @@ named_tool words =
     elim (slice_get (command_words words) 0) [ None ↦ None | Some word ↦ tool_named word ]
 
 -- the streams got this answer, and the outcome is what they left of it
-pub record Ends (tool : Option Tool) (given : Answer) (was holds : Streams) (outcome : Outcome)
+pub record PutsAnswer (tool : Option Tool) (given : Answer) (was holds : Streams)
+    (outcome : Outcome)
     : Type 0 where
   pub put : Result (Unit {0}) SinkFault
   pub served : Serves tool given was holds put
@@ -136,7 +137,7 @@ pub record EndsEarly (tool : Option Tool) (answer : Answer) (was holds : Streams
     (outcome : Outcome) : Type 0 where
   pub given : Answer
   pub is : (given ≡ answer) ⊎ (given ≡ memory_answer Before)
-  pub ends : Ends tool given was holds outcome
+  pub ends : PutsAnswer tool given was holds outcome
 
 -- no fault of a stream was counted
 pub record StreamsServe (was holds : Streams) : Type 0 where
@@ -148,7 +149,7 @@ pub record StreamsServe (was holds : Streams) : Type 0 where
 pub record EndsUnsupplied (tool : Tool) (before now : Supplies) (was holds : Streams)
     (outcome : Outcome) : Type 0 where
   pub lack : Lack
-  pub due : Lacks tool before now lack
+  pub due : IsLacking tool before now lack
   pub ends : EndsEarly (Some tool) (told_lack tool lack) was holds outcome
   pub complete : LacksNothing tool before now → StreamsServe was holds →
       outcome.cause ≡ Memory Before
@@ -172,7 +173,7 @@ pub record Ran (asked : Question) (before now : Moment) (was holds : Streams) (o
   pub settles : WhereLawful before now (λ deeds first old new. IsAlwaysSettled deeds first new)
   pub says : Says asked given given.outcome.cause
   pub failed : IsDiskFault given.outcome.cause → HasRisen before.faults now.faults
-  pub ends : Ends (Some asked.request.tool) given was holds outcome
+  pub ends : PutsAnswer (Some asked.request.tool) given was holds outcome
   pub complete : (HasRisen before.faults now.faults → ⊥) → StreamsServe was holds →
       WhereLawful before now (λ deeds first old new. (token : Token) → IsAlone token old new →
       StandsOpen (after first old) token new →

@@ -13,7 +13,7 @@ use Rattle.suite_session.specs.declared.session.Phase.TheVariants.{Begun, Over, 
 use Rattle.suite_session.specs.Runner.{Runner}
 use Rattle.suite_session.specs.Answers.{Says, after_streams}
 use Rattle.suite_session.specs.Belongs.{Belongs, HasNoToken}
-use Rattle.suite_session.specs.Bound.{IsWithin}
+use Rattle.suite_session.specs.Bound.{IsWithinBound}
 use Rattle.suite_session.specs.Deeds.{AreOfTools}
 use Rattle.suite_session.specs.Looks.{LooksOnce}
 use Rattle.suite_session.specs.Session.{HasText}
@@ -22,7 +22,7 @@ use Rattle.suite_session.specs.Stands.{HasLeft, IsDiskFault, IsStopped}
 use Rattle.suite_session.specs.Telling.{DropsNothing}
 use Rattle.suite_session.specs.Writing.{WroteDue}
 use Rattle.suite_course.specs.Open.{StandsOpen}
-use Rattle.suite_course.specs.Alone.{AnswersOnOld, IsAlone, Leaves}
+use Rattle.suite_course.specs.Alone.{AnswersOnOld, IsAlone, LeavesFolder}
 use Rattle.suite_course.specs.Shows.{IfReportsFreely, IsAlwaysSettled, Shows}
 use Rattle.suite_course.specs.Plans.{IfPlansExactly}
 
@@ -43,7 +43,7 @@ pub record Promises (deeds : SuiteDeeds) (runner : Runner) (answer : Answer) (pa
   pub drops_nothing : DropsNothing runner.token answer.outcome.cause past.history
   pub looks_once : LooksOnce runner.token past.history
   pub wrote : WroteDue runner.token past.history
-  pub within : IsWithin runner.token past.history
+  pub within : IsWithinBound runner.token past.history
   pub free_reports : IfReportsFreely runner.asked runner.token answer.outcome.cause past.history
   pub plan_exact : IfPlansExactly deeds runner.asked past.first past.history runner.token answer
   pub left : (IsStopped answer.outcome.cause → ⊥) →
@@ -51,7 +51,7 @@ pub record Promises (deeds : SuiteDeeds) (runner : Runner) (answer : Answer) (pa
   pub moved : (IsStopped answer.outcome.cause → ⊥) →
       HasMovedAll (standing runner.token past.history)
   pub leaves : (old : History) → IsAlone runner.token old past.history →
-      Leaves runner.asked past.first old past.history runner.token answer.outcome.cause
+      LeavesFolder runner.asked past.first old past.history runner.token answer.outcome.cause
   pub complete : (old : History) → IsAlone runner.token old past.history →
       StandsOpen (after past.first old) runner.token past.history →
       (IsDiskFault answer.outcome.cause → ⊥) →

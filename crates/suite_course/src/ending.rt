@@ -7,7 +7,7 @@ ghost use Rattle.suite_answers.specs.Answers.{told_words};
 ghost use Rattle.suite_session.specs.Answers.{after_streams, memory_answer};
 ghost use Rattle.suite_course.specs.Streams.{streams};
 ghost use Rattle.suite_course.specs.Supplies.{told_lack};
-ghost use Rattle.suite_course.specs.Top.{Ends, EndsEarly, named_tool};
+ghost use Rattle.suite_course.specs.Top.{PutsAnswer, EndsEarly, named_tool};
 
 use crate::streams::serve;
 use crate::supplies::Lack;
@@ -103,7 +103,7 @@ pub(crate) fn end<O: Sink, E: Sink>(
     out: &mut O,
     err: &mut E,
 ) -> Outcome
-    ensures { Ends tool answer (streams (O.moment out.old) (E.moment err.old))
+    ensures { PutsAnswer tool answer (streams (O.moment out.old) (E.moment err.old))
         (streams (O.moment out.new) (E.moment err.new)) result }
 {
     let put = serve(tool, &answer, out, err);

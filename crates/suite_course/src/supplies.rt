@@ -3,7 +3,7 @@ ghost use Rattle.std.specs.Prelude.{◌≡◌, ◌≤◌, true, false, [], lengt
 ghost use Rattle.acct_text.specs.Limits.{last_day, table_limit};
 ghost use Rattle.acct_outside.specs.Streams.{WhereBytesTold};
 ghost use Rattle.suite_session.specs.Runner.{LinesAsk};
-ghost use Rattle.suite_course.specs.Supplies.{AreSupplied, IsOfInput, Lacks, LacksLine, NotesInput, TakesAll, cause_of_source, reads_input, supplies};
+ghost use Rattle.suite_course.specs.Supplies.{AreSupplied, IsOfInput, IsLacking, LacksLine, NotesInput, TakesAll, cause_of_source, reads_input, supplies};
 
 use acct_outside::{Clock, CommitStage, Source, SourceFault};
 use acct_text::{Bytes, TABLE_LIMIT};
@@ -60,7 +60,7 @@ pub(crate) fn supply<S: Source, C: Clock>(
     ensures supplied { IfOk result (λ given. AreSupplied tool
         (supplies (S.moment source.old) (C.moment clock.old))
         (supplies (S.moment source.new) (C.moment clock.new)) given.input given.day) }
-    ensures lacks { IfErr result (Lacks tool
+    ensures lacks { IfErr result (IsLacking tool
         (supplies (S.moment source.old) (C.moment clock.old))
         (supplies (S.moment source.new) (C.moment clock.new))) }
     ensures untouched { reads_input tool ≡ false → source.new ≡ source.old }

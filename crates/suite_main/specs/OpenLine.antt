@@ -8,6 +8,6 @@ owed true = newline ∷ []
 owed false = []
 
 -- what stands below, with what it is owed, is what stood there, with what it was owed, and the piece
-abbrev pub Passes : (was_open is_open : Bool) → Bytes → Bytes → Bytes → Type 0
-Passes was_open is_open piece before now =
+abbrev pub PassesOn : (was_open is_open : Bool) → Bytes → Bytes → Bytes → Type 0
+PassesOn was_open is_open piece before now =
     now ++ owed is_open ≡ (before ++ owed was_open) ++ piece

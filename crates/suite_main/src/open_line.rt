@@ -5,7 +5,7 @@ ghost use Rattle.acct_text.specs.Bytes.{newline};
 ghost use Rattle.acct_outside.specs.Faults.{CountsFailure};
 ghost use Rattle.acct_outside.specs.Streams.{Puts, WhereBytesTold};
 ghost use Rattle.real_folder.specs.Untold.{untold_sink};
-ghost use Rattle.suite_main.specs.OpenLine.{Passes};
+ghost use Rattle.suite_main.specs.OpenLine.{PassesOn};
 
 use acct_outside::{Sink, SinkFault};
 
@@ -56,7 +56,7 @@ impl<S: Sink + Drop> OpenLine<S> {
     /// Puts the newline of an open line. At a fault the line is as open as before.
     pub(crate) fn close(&mut self) -> Result<(), SinkFault>
         ensures passes { OnOk result (WhereBytesTold (S.moment self.old.sink).holds
-            (S.moment self.new.sink).holds (Passes self.old.is_open false [])) }
+            (S.moment self.new.sink).holds (PassesOn self.old.is_open false [])) }
         ensures closed { OnOk result (self.new.is_open ≡ false) }
         ensures faults { CountsFailure SinkFault.Failed (S.moment self.old.sink).faults
             (S.moment self.new.sink).faults result }
@@ -76,7 +76,7 @@ impl<S: Sink + Drop> Sink for OpenLine<S> {
     // A line that came before is closed first. At a fault of that, nothing of the piece went out.
     fn put(&mut self, piece: &[u8]) -> Result<(), SinkFault>
         ensures passes { OnOk result (WhereBytesTold (S.moment self.old.sink).holds
-            (S.moment self.new.sink).holds (Passes self.old.is_open self.new.is_open piece.now)) }
+            (S.moment self.new.sink).holds (PassesOn self.old.is_open self.new.is_open piece.now)) }
         ensures faults { CountsFailure SinkFault.Failed (S.moment self.old.sink).faults
             (S.moment self.new.sink).faults result }
     {

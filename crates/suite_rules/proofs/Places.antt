@@ -21,7 +21,7 @@ use Rattle.suite_rules.specs.Rules.{moves_backup, Permits, free_read, commit_rul
 use Rattle.suite_rules.specs.Lawful.{KeepsRulesOrNone, IsNext, Lawful, goes_on}
 use Rattle.suite_rules.specs.Committed.{Commitment, committed, place, folded}
 use Rattle.suite_rules.specs.Invariant.{KnownStands}
-use Rattle.suite_rules.specs.Laws.{IsCleanKeeper, HasLooked, PlacesStay}
+use Rattle.suite_rules.specs.Laws.{IsCleanKeeper, KeeperSaw, PlacesStay}
 use Rattle.suite_rules.proofs.Sessions.{each, own-life, own-standing, other-standing}
 use Rattle.suite_rules.proofs.LockOrigins.{KeptNow, kept-number-origin}
 use Rattle.suite_rules.proofs.Keepers.{own-step, lock-facts, never-falls}
@@ -175,8 +175,8 @@ module _ (deeds : SuiteDeeds) (first : Folder) where
 
     -- so it is for another session
     other-placed : (other : Token) → other ≢ event.token → (number : ℕ) (seen : Seen) →
-        (HasLooked history other number seen → IsPlaced deeds first history number seen) →
-        HasLooked (event ∷ history) other number seen →
+        (KeeperSaw history other number seen → IsPlaced deeds first history number seen) →
+        KeeperSaw (event ∷ history) other number seen →
         IsPlaced deeds first (event ∷ history) number seen
     other-placed other differs number seen placed looked =
         later other number seen before.kept (placed before)
@@ -184,7 +184,7 @@ module _ (deeds : SuiteDeeds) (first : Folder) where
         same : standing other (event ∷ history) ≡ standing other history
         same = other-standing event history other differs
 
-        before : HasLooked history other number seen
+        before : KeeperSaw history other number seen
         before = record {
           kept = sym (ap (λ (one : Standing). kept_number one.own) same) ∙ looked.kept;
           uncommitted = sym (ap (λ (one : Standing). one.commit) same) ∙ looked.uncommitted;
@@ -193,7 +193,7 @@ module _ (deeds : SuiteDeeds) (first : Folder) where
 
     -- what its own session has seen is so, where it is an active keeper now
     active-placed : (number : ℕ) (seen : Seen) →
-        HasLooked (event ∷ history) event.token number seen →
+        KeeperSaw (event ∷ history) event.token number seen →
         life event.token (event ∷ history) ≡ running →
         (kept : ℕ) × ((standing event.token (event ∷ history)).own ≡ lock_kept kept) →
         IsPlaced deeds first (event ∷ history) number seen
@@ -229,8 +229,8 @@ module _ (deeds : SuiteDeeds) (first : Folder) where
 
     -- what its own session has seen is so, where it is no active keeper now
     idle-placed : (number : ℕ) (seen : Seen) →
-        (HasLooked history event.token number seen → IsPlaced deeds first history number seen) →
-        HasLooked (event ∷ history) event.token number seen →
+        (KeeperSaw history event.token number seen → IsPlaced deeds first history number seen) →
+        KeeperSaw (event ∷ history) event.token number seen →
         (life event.token (event ∷ history) ≡ running →
         is_keeper (standing event.token (event ∷ history)).own ≡ true → ⊥) →
         IsPlaced deeds first (event ∷ history) number seen
@@ -270,8 +270,8 @@ module _ (deeds : SuiteDeeds) (first : Folder) where
 
     -- what its own session has seen is so
     own-placed : (number : ℕ) (seen : Seen) →
-        (HasLooked history event.token number seen → IsPlaced deeds first history number seen) →
-        HasLooked (event ∷ history) event.token number seen →
+        (KeeperSaw history event.token number seen → IsPlaced deeds first history number seen) →
+        KeeperSaw (event ∷ history) event.token number seen →
         IsPlaced deeds first (event ∷ history) number seen
     own-placed number seen placed looked =
         cases (is_active (life event.token (event ∷ history)))
@@ -290,16 +290,16 @@ module _ (deeds : SuiteDeeds) (first : Folder) where
 
   -- what a session has seen is the fold of its place
   placed : (history : History) → Lawful deeds first history → (token : Token) (number : ℕ)
-      (seen : Seen) → HasLooked history token number seen →
+      (seen : Seen) → KeeperSaw history token number seen →
       IsPlaced deeds first history number seen
   placed [] lawful token number seen looked = absurd (none looked.kept)
     where
       none : None ≡ Some number → ⊥
       none is = cc
   placed (event ∷ history) (goes_on _ _ lawful next) token number seen looked =
-      each (λ asked. (HasLooked history asked number seen →
+      each (λ asked. (KeeperSaw history asked number seen →
       IsPlaced deeds first history number seen) →
-      HasLooked (event ∷ history) asked number seen →
+      KeeperSaw (event ∷ history) asked number seen →
       IsPlaced deeds first (event ∷ history) number seen) event.token
       (own-placed event history lawful next number seen)
       (λ other differs. other-placed event history lawful next other differs number seen)

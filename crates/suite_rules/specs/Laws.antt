@@ -98,7 +98,7 @@ pub record LawfulSettles : Type 0 where
 
 -- a session that is or was keeper of the number, hasn't called its commit, and has seen this since it
 -- last came to know that no intent stands; it may have freed its lock, failed, answered or died
-pub record HasLooked (history : History) (token : Token) (number : ℕ) (seen : Seen) : Type 0 where
+pub record KeeperSaw (history : History) (token : Token) (number : ℕ) (seen : Seen) : Type 0 where
   pub kept : kept_number (standing token history).own ≡ Some number
   pub uncommitted : (standing token history).commit ≡ Before
   pub clean : (standing token history).knows ≡ knows_none seen
@@ -111,16 +111,16 @@ pub record PlacesStay : Type 0 where
       place number (committed (newer ++ older)) ≡ place number (committed older)
   pub has_seen : (deeds : SuiteDeeds) (first : Folder) (history : History) →
       Lawful deeds first history → (token : Token) (number : ℕ) (seen : Seen) →
-      HasLooked history token number seen → (table : Tab) (content : Option Bytes) →
+      KeeperSaw history token number seen → (table : Tab) (content : Option Bytes) →
       seen.file (Table table) ≡ Some content →
       content ≡ folded deeds first (place number (committed history)) table
   pub settings : (deeds : SuiteDeeds) (first : Folder) (history : History) →
       Lawful deeds first history → (token : Token) (number : ℕ) (seen : Seen) →
-      HasLooked history token number seen → (content : Option Bytes) →
+      KeeperSaw history token number seen → (content : Option Bytes) →
       seen.file Defs ≡ Some content → content ≡ settings_file first
   pub whole : (deeds : SuiteDeeds) (first : Folder) (history : History) →
       Lawful deeds first history → (token : Token) (number : ℕ) (seen : Seen) →
-      HasLooked history token number seen → (all : HasSeen (standing token history).command seen) →
+      KeeperSaw history token number seen → (all : HasSeen (standing token history).command seen) →
       (all.files ≡ folded deeds first (place number (committed history)))
       × (all.defs ≡ settings_file first)
 

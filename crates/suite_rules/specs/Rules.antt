@@ -110,7 +110,7 @@ pub data MoveRule (standing : Standing) (number : ℕ) : Name → Name → Type 
       MoveRule standing number FreeStage (Lock number)
 
 -- the session made this lock, and its last listing, made after the create, shows a greater one
-pub record WasOutrun (standing : Standing) (number : ℕ) : Type 0 where
+pub record HasSeenGreater (standing : Standing) (number : ℕ) : Type 0 where
   pub made : made_number standing.own ≡ Some number
   pub listing : Listing
   pub listed : standing.listing ≡ Some listing
@@ -121,7 +121,7 @@ pub record WasOutrun (standing : Standing) (number : ℕ) : Type 0 where
 pub data UnlockRule (standing : Standing) (number : ℕ) : Type 0 where
   unlocks_below : (keeper : KeeperRule standing) → number < keeper.number →
       UnlockRule standing number
-  unlocks_own : WasOutrun standing number → UnlockRule standing number
+  unlocks_own : HasSeenGreater standing number → UnlockRule standing number
 
 -- the session has seen all seven files, and its answer on them has status 0 and isn't Changed
 pub record AnswersSame (deeds : SuiteDeeds) (standing : Standing) : Type 0 where
@@ -132,7 +132,7 @@ pub record AnswersSame (deeds : SuiteDeeds) (standing : Standing) : Type 0 where
 
 -- The session took no lock. What it has shown of the intent is absent or reads, and whichever files are as
 -- it has shown, its answer on what it reads of them has status 0 and isn't Changed.
-pub record AnswersShown (deeds : SuiteDeeds) (standing : Standing) : Type 0 where
+pub record ReportsShown (deeds : SuiteDeeds) (standing : Standing) : Type 0 where
   pub uncalled : standing.own ≡ lock_uncalled
   pub shown : Shown
   pub shows : standing.shown ≡ Some shown
@@ -148,7 +148,7 @@ pub data AnswerRule (deeds : SuiteDeeds) (standing : Standing) (status : ℕ) : 
   answers_refusal : status ≢ 0 → AnswerRule deeds standing status
   answers_changed : standing.commit ≡ Committed → AnswerRule deeds standing status
   answers_same : AnswersSame deeds standing → AnswerRule deeds standing status
-  answers_shown : AnswersShown deeds standing → AnswerRule deeds standing status
+  answers_shown : ReportsShown deeds standing → AnswerRule deeds standing status
 
 -- The standing permits the call, each by its rule. A begin has the rule of lives alone.
 pub data Permits (deeds : SuiteDeeds) (standing : Standing) : Call → Type 0 where

@@ -15,7 +15,7 @@ use Rattle.suite_session.specs.declared.state.State.TheVariants.{Answering}
 use Rattle.suite_session.specs.declared.session.Phase.{Phase}
 use Rattle.suite_session.specs.declared.session.Phase.TheVariants.{Waiting, Begun, Over, Unbegun}
 use Rattle.suite_session.specs.Runner.{Runner}
-use Rattle.suite_session.specs.Belongs.{AreApart, Belongs, HasGiven, HasNoToken, IsLedTo, IsOnItsWay, OthersCame, of_others}
+use Rattle.suite_session.specs.Belongs.{AreTwo, Belongs, HasGiven, HasNoToken, IsLedTo, IsOnItsWay, OthersCame, of_others}
 use Rattle.suite_session.specs.Grows.{Grows, none_new, others_new, own_new, Grew}
 use Rattle.suite_session.specs.Session.{token_of}
 use Rattle.suite_session.specs.Stands.{TurnsTo}
@@ -156,7 +156,7 @@ grown-others admits token other own apart old _ _ (own_new most event new grown 
     (λ also. apart (sym is ∙ also))
 
 module _ (before now : Moment) (old new : Phase) (turns : SessionTurns before now old new)
-    (other : Phase) (belongs : Belongs before other) (apart : AreApart old other) where
+    (other : Phase) (belongs : Belongs before other) (apart : AreTwo old other) where
   -- the token of the turn isn't the other session's
   turn-apart : (token : Token) → token_of other ≡ Some token →
       IfSome before.told (λ past. turn_token old new ≡ token → ⊥)
@@ -169,7 +169,7 @@ module _ (before now : Moment) (old new : Phase) (turns : SessionTurns before no
       by-name : IfSome before.told (λ past. [] ≡ token → ⊥)
       by-name = told-as before.told (λ past one. one.named) here
 
-      by-phase : (was next : Phase) → SessionTurns before now was next → AreApart was other →
+      by-phase : (was next : Phase) → SessionTurns before now was next → AreTwo was other →
           IfSome before.told (λ past. turn_token was next ≡ token → ⊥)
       by-phase (Waiting asked) (Begun runner state) turned differ =
           told-both before.told (λ past one fresh same. one.some
@@ -205,7 +205,7 @@ module _ (before now : Moment) (old new : Phase) (turns : SessionTurns before no
       by-told was told grew own differ = absurd grew
 
   -- the session that was turned has another token than it still
-  still-apart : IfSome before.told (λ past. AreApart new other)
+  still-apart : IfSome before.told (λ past. AreTwo new other)
   still-apart = by-told before.told refl
     where
       here : (past : Past) → before.told ≡ Some past → (token : Token) →
@@ -215,7 +215,7 @@ module _ (before now : Moment) (old new : Phase) (turns : SessionTurns before no
           is (present before other belongs token its)
 
       by-phase : (past : Past) → before.told ≡ Some past → (was next : Phase) →
-          SessionTurns before now was next → AreApart was other → AreApart next other
+          SessionTurns before now was next → AreTwo was other → AreTwo next other
       by-phase past is (Waiting asked) (Begun runner state) turned differ token mine its =
           let same : runner.token ≡ token = cc mine in
           (here past is token its).some
@@ -233,7 +233,7 @@ module _ (before now : Moment) (old new : Phase) (turns : SessionTurns before no
           absurd (let wrong : None ≡ Some token = mine in cc)
       by-phase past is was next turned differ token mine its = absurd turned
 
-      by-told : (told : Option Past) → before.told ≡ told → IfSome told (λ past. AreApart new other)
+      by-told : (told : Option Past) → before.told ≡ told → IfSome told (λ past. AreTwo new other)
       by-told None is = tt
       by-told (Some past) is = by-phase past is old new turns apart
 
@@ -245,7 +245,7 @@ others-kept before now old new turns other belongs apart = record {
   apart = still-apart before now old new turns other belongs apart;
 }
   where
-    came : (one : Phase) → Belongs before one → AreApart old one →
+    came : (one : Phase) → Belongs before one → AreTwo old one →
         IfSome (token_of one) (OthersCame before now)
     came (Waiting asked) is differ = tt
     came (Unbegun tool answer) is differ = tt

@@ -30,8 +30,8 @@ use Rattle.suite_session.specs.Due.{IsDue}
 use Rattle.suite_session.specs.Reports.{AnswersShown}
 use Rattle.suite_session.specs.Session.{HasText, HasTextIn, IsToPut, output_failed, state_after, state_failed, token_of}
 use Rattle.suite_session.specs.Staging.{HasMovedAll}
-use Rattle.suite_session.specs.Stands.{Gives, HasLeft, KnowsDecided, StandsAs}
-use Rattle.suite_session.specs.Telling.{IsToTell, Tells}
+use Rattle.suite_session.specs.Stands.{HasToGive, HasLeft, KnowsDecided, StandsAs}
+use Rattle.suite_session.specs.Telling.{IsToTell, Covers}
 use Rattle.suite_session.specs.Turning.{IsUnbegun}
 use Rattle.suite_session.proofs.BoundLemmas.{wrote-still, called-still, others-leave, others-never, within-still}
 use Rattle.suite_session.proofs.DueLemmas.{shown-stays}
@@ -192,7 +192,7 @@ module _ (before now : Moment) (runner : Runner) (others : OthersCame before now
         }
 
     -- it has its answer to give still
-    gives-still : Gives before runner answer → Gives now runner answer
+    gives-still : HasToGive before runner answer → HasToGive now runner answer
     gives-still gives = record {
       says = gives.says;
       due = told-stays before.told now.told due-still others.came gives.due;
@@ -291,7 +291,7 @@ module _ (before now : Moment) (runner : Runner) (others : OthersCame before now
     before = ended.before;
     last = (others-leave runner.token was.history past.history came).same_events ∙ ended.last;
     due = due-still given was past came ended.due;
-    drops_nothing = tells-others (Tells given.outcome.cause) runner.token (of_others runner.token)
+    drops_nothing = tells-others (Covers given.outcome.cause) runner.token (of_others runner.token)
         (others-never runner.token) was.history past.history came ended.drops_nothing;
     left = λ goes_on. left-still given was past came (ended.left goes_on);
     moved = λ goes_on. subst HasMovedAll

@@ -18,7 +18,7 @@ use Rattle.suite_session.specs.declared.state.State.TheVariants.{Looking, Readin
 use Rattle.suite_session.specs.Runner.{Runner}
 use Rattle.suite_session.specs.Writing.{WroteDue}
 use Rattle.suite_session.specs.Belongs.{of_others}
-use Rattle.suite_session.specs.Bound.{HasCalled, IsWithin, appends_in, calls_of, others_in}
+use Rattle.suite_session.specs.Bound.{HasCalled, IsWithinBound, appends_in, calls_of, others_in}
 use Rattle.suite_session.specs.Counts.{CountsLower, CountsTo, IsToList, LeavesFewer, Nears, appends_by, others_by}
 use Rattle.suite_session.specs.Grows.{Grows}
 use Rattle.suite_session.specs.Left.{appends_left, calls_left, is_append, most_appends, most_calls, most_lower, watching_calls}
@@ -290,7 +290,7 @@ module _ (admits : Admission) (runner : Runner) (was past : Past)
   -- and with its answer
   pub called-last : (given : Answer) (status : ℕ) →
       OneMade was past runner.token (answers status) ⊥ →
-      HasCalled runner.token (Answering given) was.history → IsWithin runner.token past.history
+      HasCalled runner.token (Answering given) was.history → IsWithinBound runner.token past.history
   called-last given status made called = by-counts called.counts
     where
       grew : GrewBy was past runner.token (answers status)
@@ -304,7 +304,7 @@ module _ (admits : Admission) (runner : Runner) (was past : Past)
       by-made (inr none) = absurd none.0
 
       by-counts : ⊥ ⊎ CountsLower runner.token was.history called.lower →
-          IsWithin runner.token past.history
+          IsWithinBound runner.token past.history
       by-counts (inl never) = absurd never
       by-counts (inr counts) = record {
         lower = called.lower;
@@ -357,7 +357,7 @@ module _ (token : Token) (old new : History) (came : ByOthers (of_others token) 
         (sym others-leave.same_events) called.leads;
   }
 
-  pub within-still : IsWithin token old → IsWithin token new
+  pub within-still : IsWithinBound token old → IsWithinBound token new
   within-still called = record {
     lower = called.lower;
     counts = counts-later token old new longer-by-others.0 longer-by-others.1 called.lower

@@ -30,7 +30,7 @@ use Rattle.commit_steps.specs.Outcomes.{Loads}
 use Rattle.commit_steps.proofs.BackupLemmas.{old-pieces}
 use Rattle.commit_steps.proofs.InstallLemmas.{pieces-are}
 use Rattle.commit_steps.proofs.NextLemmas.{no-table}
-use Rattle.commit_steps.specs.States.{AreSound, Change, Inputs, Reader, Stager, Walker, append_intent, append_on, backup_pieces, begun_of, changed, install_pieces, intended, intent_left, new_files, next_table, old_bytes, old_files, step_on, steps_left, table_after, walk_of}
+use Rattle.commit_steps.specs.States.{AreSound, Change, Inputs, Reader, Stager, Walker, append_intent, append_on, backup_pieces, begun_of, changed, install_pieces, intended, intent_left, new_files, next_table, old_bytes, old_files, step_on, steps_left, table_behind, walk_of}
 use Rattle.suite_answers.specs.declared.cause.Cause.TheVariants.{NoTable as HasNoTable, TooLarge as IsTooLarge}
 use Rattle.suite_answers.specs.declared.cause.Which.TheVariants.{File}
 use Rattle.suite_answers.specs.declared.answer.Answer.{Answer as FinalAnswer}
@@ -39,7 +39,7 @@ use Rattle.suite_session.specs.declared.state.State.TheVariants.{Unlocking, Answ
 use Rattle.suite_session.specs.Runner.{Runner}
 use Rattle.suite_session.specs.Counts.{LeavesFewer}
 use Rattle.suite_session.specs.Left.{appends_left, calls_left, change_appends, change_calls, commit_calls, install_appends, leaving_calls, new_texts, old_texts, reads_left, table_calls, texts_appends}
-use Rattle.suite_session.specs.Loading.{DecidesTo, EndsAt, LoadsTo}
+use Rattle.suite_session.specs.Loading.{DecidesTo, EndsLoad, LoadsTo}
 use Rattle.suite_session.specs.Texts.{HoldsText, begun_text, stager_text, text_in}
 use Rattle.suite_session.proofs.AppendsLemmas.{added-steps, begun-left, tables-most, walk-appends, walked-appends}
 use Rattle.suite_session.proofs.LoadingTurns.{change-is}
@@ -51,7 +51,7 @@ use Rattle.suite_session.proofs.TextsLemmas.{backed_then, installed_then, intent
 -- ---- The reads
 
 -- a table read leaves a read fewer
-reads-fewer : (table : Tab) → reads_left (table_after table) < reads_left (Some table)
+reads-fewer : (table : Tab) → reads_left (table_behind table) < reads_left (Some table)
 reads-fewer Passwd = omega arith
 reads-fewer table = omega arith
 
@@ -190,7 +190,7 @@ loads-calls runner reader (Done inputs) state answer sound leads shown =
 
 -- and one that leads no further
 pub ended-calls : (tool : Tool) (reader : Reader) (answer : Result Found FolderFault)
-    (end : LoadEnd) (state : State) → EndsAt tool end state → Loads reader answer (Err end) →
+    (end : LoadEnd) (state : State) → EndsLoad tool end state → Loads reader answer (Err end) →
     LeavesFewer (Loading reader) state
 ended-calls tool reader answer (Fault fault) state ends shown =
     let some = reads-some reader.next in

@@ -38,7 +38,7 @@ use Rattle.suite_session.specs.Deeds.{AreOfTools}
 use Rattle.suite_session.specs.Due.{AnsweredAll, IsShown, IsDue}
 use Rattle.suite_session.specs.Grows.{Grew}
 use Rattle.suite_session.specs.Locking.{cause_of_fault}
-use Rattle.suite_session.specs.Stands.{AnswersWith, IsOutside, IsOfChange, Gives, Extends, StandsAs, StandsChanging, StandsInstalling, StandsUnlocking}
+use Rattle.suite_session.specs.Stands.{AnswersWith, IsOutside, IsOfChange, HasToGive, Extends, StandsAs, StandsChanging, StandsInstalling, StandsUnlocking}
 use Rattle.suite_session.proofs.WritingLemmas.{IsTurnCall, change-deed}
 use Rattle.suite_session.proofs.LeavingLemmas.{fault-stopped, clean-known}
 use Rattle.suite_session.proofs.CauseLemmas.{IsMetAs, fault-stage, told-met, told-stage, told-plain, told-says, plain-shown, fault-plain}
@@ -337,7 +337,7 @@ module _ (before now : Moment) (runner : Runner) (answer : FinalAnswer) where
         Shows) where
       -- so it has its answer to give
       gives-still : (Holds : Standing → Type 0) → At now runner Committed Holds →
-          Gives now runner answer
+          HasToGive now runner answer
       gives-still Holds stands = record {
         says = stood.gives.says;
         due = changed-due Holds before.told now.told stood.gives.due stands

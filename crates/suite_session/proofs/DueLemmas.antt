@@ -22,7 +22,7 @@ use Rattle.suite_rules.proofs.Parts.{LeavesWhere, StandsWhere}
 use Rattle.suite_session.specs.Moment.{Runs, At}
 use Rattle.suite_session.specs.Causes.{Met, HasMet, HasYielded, MetChange, MetIntent}
 use Rattle.suite_session.specs.Due.{AnswersAll, AnswersSome, AnsweredAll, WasKeeper, IsReported, ShowsAll, ShowsLarge, ShowsOutrun, ShowsSome, IsShown, IsDue}
-use Rattle.suite_session.specs.Stands.{Extends, Gives}
+use Rattle.suite_session.specs.Stands.{Extends, HasToGive}
 
 -- what was met stays met
 pub met-later : (token : Token) (call : Call) (answered : CallAnswer call)
@@ -225,7 +225,7 @@ module _ (runner : Runner) (answer : Answer) where
     -- so the runner has it to give still
     pub gives-stay : At before runner commit Held → At now runner commit Holds →
         Leaves work runner.token before now → Extends before.told now.told →
-        Gives before runner answer → Gives now runner answer
+        HasToGive before runner answer → HasToGive now runner answer
     gives-stay stood stands left extends gives = record {
       says = gives.says;
       due = due-stays before.told now.told stood stands left extends gives.due;

@@ -19,7 +19,7 @@ use Rattle.acct_outside.specs.Gives.{GivesResult}
 use Rattle.acct_outside.specs.History.{Event, History}
 use Rattle.acct_outside.specs.Life.{Life, MayCall, ended, is_running, life, life_step, running, runs_in, unbegun}
 use Rattle.memory_folder.specs.Logged.{folder_after, with_event}
-use Rattle.memory_folder.specs.Memory.{Runs, moment_of, past_of}
+use Rattle.memory_folder.specs.Memory.{HasRunning, moment_of, past_of}
 use Rattle.acct_outside.specs.Moment.{Past}
 use Rattle.acct_outside.specs.Others.{ByOthers, none_came, one_came}
 use Rattle.acct_outside.specs.Tokens.{Token}
@@ -93,7 +93,7 @@ died-ends call effect lived is = refl
 module _ (before : MemoryFolder) (runner : Runner) (state : State)
     (way : IsOnItsWay (moment_of before) runner state) where
   -- it runs there
-  pub runs-there : Runs before runner.token
+  pub runs-there : HasRunning before runner.token
   runs-there =
       record { runs = (state-runs (moment_of before) runner way.own way.led.stands).runs }
 

@@ -28,7 +28,7 @@ use Rattle.lock_steps.specs.Watching.{ConfirmsFound, Gatherer, HasGathered}
 use Rattle.lock_steps.specs.declared.LockRefusal.TheVariants.{Outrun}
 use Rattle.lock_steps.specs.declared.LockEnd.{LockEnd}
 use Rattle.lock_steps.specs.declared.LockEnd.TheVariants.{Refused, Folder}
-use Rattle.lock_steps.specs.Outcomes.{Looks, Reads, Asks, Claims, Confirms, Withdraws}
+use Rattle.lock_steps.specs.Outcomes.{Looks, Reads, AsksAlive, Claims, Confirms, Withdraws}
 use Rattle.suite_answers.specs.declared.cause.Cause.{Cause}
 use Rattle.suite_session.specs.Causes.{HasListedNone}
 use Rattle.suite_session.specs.Locking.{cause_of_end, cause_of_fault}
@@ -164,7 +164,7 @@ read-unkept seen (Err fault) (Refused refusal) shown goes_on = absurd shown
 
 -- the verdict on its holder
 pub ask-unkept : (asking : Asker) (answer : Result Verdict FolderFault) (end : LockEnd) →
-    Asks asking answer (Err end) → (IsStopped (cause_of_end end) → ⊥) →
+    AsksAlive asking answer (Err end) → (IsStopped (cause_of_end end) → ⊥) →
     LeavesUnkept (asks asking.asked) answer (HasReadHeld asking)
 ask-unkept asking (Ok verdict) end shown goes_on = record {
   given = verdict;

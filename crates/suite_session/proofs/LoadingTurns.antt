@@ -48,7 +48,7 @@ use Rattle.suite_session.specs.Moment.{Runs, At}
 use Rattle.suite_session.specs.Answers.{answer_on, IsAnswerOn, given_for}
 use Rattle.suite_session.specs.Deeds.{is_change}
 use Rattle.suite_session.specs.Due.{ShowsLarge, IsShown, IsDue}
-use Rattle.suite_session.specs.Loading.{DecidesOn, DecidesTo, EndsAt, LoadsTo}
+use Rattle.suite_session.specs.Loading.{DecidesOn, DecidesTo, EndsLoad, LoadsTo}
 use Rattle.suite_session.specs.Locking.{cause_of_fault}
 use Rattle.suite_session.specs.Stands.{IsOfChange, IsOutside, LeavesWith, StandsAs, StandsChanging, StandsUnlocking, TellsOutside}
 use Rattle.suite_session.specs.Causes.{Met}
@@ -89,7 +89,7 @@ load-came reader (Ok found_too_large) fault shown = absurd shown
 
 -- so it is to tell that
 pub load-ends : (tool : Tool) (reader : Reader) (answer : Result Found FolderFault) (end : LoadEnd)
-    (state : State) → Loads reader answer (Err end) → EndsAt tool end state →
+    (state : State) → Loads reader answer (Err end) → EndsLoad tool end state →
     MeetsBy (reads (next_name reader.next)) answer (HasRead reader) state
 load-ends tool reader (Ok found) end state shown ends =
     quiet-on (reads (next_name reader.next)) (reads-quiet reader.next) (Ok found) found
@@ -339,7 +339,7 @@ module _ (before now : Moment) (runner : Runner) (reader : Reader)
 
   -- after one that leads no further
   pub ended-stands : (end : LoadEnd) (state : State) → AreSound reader.next reader.files →
-      EndsAt runner.asked.request.tool end state →
+      EndsLoad runner.asked.request.tool end state →
       MakesCall before now reader.keeper.token
       (reads (next_name reader.next)) (λ answer. Loads reader answer (Err end)) →
       StandsEnded now reader.keeper.token end → StandsAs now runner state
@@ -379,7 +379,7 @@ loads-quiet runner (More more) state leads fault = subst TellsOutside leads faul
 loads-quiet runner (Done inputs) state leads fault = decided-quiet runner inputs state leads fault
 
 -- one that leads no further tells of one only where the folder failed
-pub ended-failed : (tool : Tool) (end : LoadEnd) (state : State) → EndsAt tool end state →
+pub ended-failed : (tool : Tool) (end : LoadEnd) (state : State) → EndsLoad tool end state →
     (reader : Reader) (answer : Result Found FolderFault) → Loads reader answer (Err end) →
     TellsOutside state → end ≡ Fault (before_commit Failed)
 ended-failed tool (Fault fault) state ends reader answer shown told =

@@ -17,7 +17,7 @@ use Rattle.acct_outside.specs.declared.FolderFault.TheVariants.{Failed}
 use Rattle.lock_steps.specs.declared.LockRefusal.TheVariants.{Held}
 use Rattle.lock_steps.specs.declared.LockEnd.{LockEnd}
 use Rattle.lock_steps.specs.declared.LockEnd.TheVariants.{Refused, Folder}
-use Rattle.lock_steps.specs.Outcomes.{folder_failed, Looks, Reads, Asks, Claims, Confirms}
+use Rattle.lock_steps.specs.Outcomes.{folder_failed, Looks, Reads, AsksAlive, Claims, Confirms}
 use Rattle.suite_answers.specs.Reasons.{stage_of}
 use Rattle.suite_session.specs.Locking.{cause_of_end}
 use Rattle.suite_session.specs.Stands.{IsOutside}
@@ -79,7 +79,7 @@ reads-number seen answer asking shown = absurd shown
 
 -- a verdict
 pub asks-token : (asking : Asker) (answer : Result Verdict FolderFault) (judged : Lister) →
-    Asks asking answer (Ok judged) → judged.token ≡ asking.token
+    AsksAlive asking answer (Ok judged) → judged.token ≡ asking.token
 asks-token asking (Ok Dead) judged shown = ap (λ (lister : Lister). lister.token) shown
 asks-token asking (Ok Alive) judged shown = absurd shown
 asks-token asking (Err fault) judged shown = absurd shown

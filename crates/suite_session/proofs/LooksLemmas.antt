@@ -20,7 +20,7 @@ use Rattle.suite_rules.specs.Outcomes.{installs, pieces_left, stages, stages_mor
 use Rattle.lock_steps.specs.Gathered.{Gathered, awaits, first_gathered, inputs, listed_at}
 use Rattle.lock_steps.specs.NextCall.{next_or}
 use Rattle.lock_steps.specs.States.{Asker, Kept, Lister, Maker}
-use Rattle.lock_steps.specs.Watching.{Gatherer, ReadsIntentFirst, ReadsOn, Report}
+use Rattle.lock_steps.specs.Watching.{Gatherer, ReadsIntentFirst, GathersOn, Report}
 use Rattle.lock_steps.specs.declared.gathered.IntentFound.{IntentFound}
 use Rattle.lock_steps.specs.declared.gathered.IntentFound.TheVariants.{TooLarge as IntentIsLarge, Damaged as IntentIsDamaged}
 use Rattle.lock_steps.specs.declared.claiming.Confirmed.{Confirmed}
@@ -46,7 +46,7 @@ use Rattle.suite_session.specs.declared.state.State.{State}
 use Rattle.suite_session.specs.declared.state.State.TheVariants.{Looking, Reading, Asking, Claiming, Confirming, Withdrawing, ReadingIntent, Recovering, Moving, Loading, BackingUp, Committing, Installing, Unlocking, Watching, Gathering, Answering}
 use Rattle.suite_session.specs.Runner.{Runner}
 use Rattle.suite_session.specs.Answers.{cause_of_problem}
-use Rattle.suite_session.specs.Loading.{EndsAt, LoadsTo}
+use Rattle.suite_session.specs.Loading.{EndsLoad, LoadsTo}
 use Rattle.suite_session.specs.Locking.{after_judging, after_listing, after_look, after_read, cause_of_fault}
 use Rattle.suite_session.specs.Looks.{HasLooksLeft, Look, at_holder, at_intent, at_locks, at_text, LooksLess, LooksOnce, gathering_looks, looks_at, looks_by, looks_in, looks_left, most_looks}
 use Rattle.suite_session.specs.NextCall.{state_call}
@@ -261,7 +261,7 @@ gathering-due reading look = by-left reading.left
 
 -- a read leaves it out
 pub gathers-less : (reading : Gatherer) (answer : Result Found FolderFault) (more : Gatherer) →
-    ReadsOn reading answer (Ok more) → 0 < length reading.left →
+    GathersOn reading answer (Ok more) → 0 < length reading.left →
     LooksLess (Gathering reading) (Gathering more)
 gathers-less reading (Ok found) more shown some look =
     subst (λ (left : List Name). length (filter (λ name. looks_at (reads name) look) left)
@@ -445,7 +445,7 @@ loads-less runner reader (Done loaded) (Answering answer) is =
 loads-less runner reader (Done loaded) state is = absurd is
 
 -- and after one that ends them
-pub ends-less : (tool : Tool) (end : LoadEnd) (old state : State) → EndsAt tool end state →
+pub ends-less : (tool : Tool) (end : LoadEnd) (old state : State) → EndsLoad tool end state →
     LooksLess old state
 ends-less tool (LoadFault fault) old state told =
     answers-less tool (cause_of_fault fault.stage fault.fault) old state told

@@ -33,7 +33,7 @@ use Rattle.lock_steps.specs.declared.judging.Told.{Told}
 use Rattle.lock_steps.specs.declared.judging.Told.TheVariants.{Judged, Ask}
 use Rattle.lock_steps.specs.declared.claiming.Confirmed.{Confirmed}
 use Rattle.lock_steps.specs.declared.claiming.Confirmed.TheVariants.{Keeper, Loser}
-use Rattle.lock_steps.specs.Outcomes.{Looks, Reads, Asks, Claims, Confirms, Withdraws, as_it_came, loser_of}
+use Rattle.lock_steps.specs.Outcomes.{Looks, Reads, AsksAlive, Claims, Confirms, Withdraws, as_it_came, loser_of}
 use Rattle.commit_steps.specs.States.{next_name}
 use Rattle.account_model.specs.declared.tool.Tool.{Tool}
 use Rattle.suite_answers.specs.declared.cause.Which.TheVariants.{File}
@@ -318,7 +318,8 @@ module _ (tool : Tool) (state : State) where
   dead-none holder stood met shows = shows
 
   pub ask-on : (asking : Asker) (answer : Result Verdict FolderFault) (judged : Lister) →
-      Asks asking answer (Ok judged) → MeetsBy (asks asking.asked) answer (HasReadHeld asking) state
+      AsksAlive asking answer (Ok judged) →
+      MeetsBy (asks asking.asked) answer (HasReadHeld asking) state
   ask-on asking (Ok Dead) judged shown =
       λ stood held met shows. absurd (dead-none asking.asked stood met shows)
   ask-on asking (Ok Alive) judged shown = absurd shown
@@ -332,7 +333,7 @@ module _ (tool : Tool) (state : State) where
   held-tells asked holder is told stood met shows = absurd shows
 
   pub ask-ends : (asking : Asker) (answer : Result Verdict FolderFault) (end : LockEnd) →
-      Asks asking answer (Err end) → AnswersWith tool (cause_of_end end) state →
+      AsksAlive asking answer (Err end) → AnswersWith tool (cause_of_end end) state →
       MeetsBy (asks asking.asked) answer (HasReadHeld asking) state
   ask-ends asking (Ok Alive) (Refused (LockHeld holder)) shown told =
       λ stood held. held-tells asking.asked holder shown told stood

@@ -23,7 +23,7 @@ use Rattle.lock_steps.specs.Stands.{HasLooked, HasReadHeld, HasJudged, HasMade, 
 use Rattle.lock_steps.specs.declared.LockRefusal.TheVariants.{Held, Gone, Raced, Outrun, Damaged, Exhausted}
 use Rattle.lock_steps.specs.declared.LockEnd.{LockEnd}
 use Rattle.lock_steps.specs.declared.LockEnd.TheVariants.{Refused, Folder}
-use Rattle.lock_steps.specs.Outcomes.{Looks, Reads, Asks, Claims, Confirms, Withdraws}
+use Rattle.lock_steps.specs.Outcomes.{Looks, Reads, AsksAlive, Claims, Confirms, Withdraws}
 use Rattle.recovery.specs.declared.RecoveryEnd.TheVariants.{Damaged as IntentIsDamaged, TooLarge as IntentIsLarge}
 use Rattle.recovery.specs.Outcomes.{FindsIntent}
 use Rattle.suite_answers.specs.declared.cause.Which.TheVariants.{File}
@@ -120,7 +120,7 @@ module _ (runner : Runner) (told : Option Past) where
 
   -- the verdict on its holder
   pub ask-met : (asking : Asker) (answer : Result Verdict FolderFault) (end : LockEnd) →
-      asking.greatest ≢ greatest_lock → Asks asking answer (Err end) →
+      asking.greatest ≢ greatest_lock → AsksAlive asking answer (Err end) →
       ((verdict : Verdict) → answer ≡ Ok verdict →
       Got (asks asking.asked) verdict (HasReadHeld asking)) →
       Ended (asks asking.asked) answer → Meets (cause_of_end end)

@@ -31,7 +31,7 @@ use Rattle.lock_steps.specs.declared.gathered.IntentFound.{IntentFound}
 use Rattle.lock_steps.specs.declared.gathered.IntentFound.TheVariants.{Absent, Listed, TooLarge, Damaged}
 use Rattle.lock_steps.specs.Gathered.{AreSmall, Gathered, HasFound, TellsIntent, found_as, gathered_at, is_large, is_readable, known_of, listed_at}
 use Rattle.suite_session.specs.Deeds.{files_of}
-use Rattle.suite_session.specs.Reporting.{bad_settings, bad_table, first_problem, is_bad}
+use Rattle.suite_session.specs.Reporting.{bad_settings, bad_table, first_problem, is_unusable}
 use Rattle.suite_session.proofs.ProblemLemmas.{IsLarge, large-settings, large-table}
 
 -- the files of contents have these
@@ -181,27 +181,27 @@ each-table Holds all Subgid = all.1.1.1.1.1.0
 
 -- where there is no first problem, no table has one, and login.defs isn't too large
 pub record IsUsable (gathered : Gathered) : Type 0 where
-  pub tables : (table : Tab) → is_bad gathered table ≡ false
+  pub tables : (table : Tab) → is_unusable gathered table ≡ false
   pub settings : is_large gathered Defs ≡ false
 
 -- files of which no problem is told are usable
 pub none-usable : (gathered : Gathered) → first_problem gathered ≡ None → IsUsable gathered
-none-usable gathered none = by-found (find (is_bad gathered) all_tables) refl none
+none-usable gathered none = by-found (find (is_unusable gathered) all_tables) refl none
   where
     settings-usable : (large : Bool) → (if large then Some SettingsTooLarge else None) ≡ None →
         large ≡ false
     settings-usable true is = absurd (cc is)
     settings-usable false is = refl
 
-    by-found : (found : Option Tab) → find (is_bad gathered) all_tables ≡ found →
+    by-found : (found : Option Tab) → find (is_unusable gathered) all_tables ≡ found →
         (elim found as (λ one. Option FileProblem) [
           | Some table ↦ Some (bad_table gathered table)
           | None ↦ bad_settings gathered
         ]) ≡ None → IsUsable gathered
     by-found (Some table) is problem = absurd (cc problem)
     by-found None is problem = record {
-      tables = each-table (λ table. is_bad gathered table ≡ false)
-          (none-passes (is_bad gathered) all_tables is);
+      tables = each-table (λ table. is_unusable gathered table ≡ false)
+          (none-passes (is_unusable gathered) all_tables is);
       settings = settings-usable (is_large gathered Defs) problem;
     }
 
@@ -286,24 +286,24 @@ module _ (wanted : List Tab) (shown : Shown) (gathered : Gathered)
 
       -- each table has the problem that the report finds
       table-problem : (table : Tab) → table_problem table (table_of seen table)
-          ≡ cond (is_bad gathered table) (Some (bad_table gathered table)) None
+          ≡ cond (is_unusable gathered table) (Some (bad_table gathered table)) None
       table-problem table = table-by table (is_large gathered (Table table))
           (table_of gathered.files table) (table_of seen table) (table-kept table)
           (small.tables table)
 
       -- so their first problem is that of the report, or of login.defs
-      files-first : files_problem seen defs ≡ (elim (find (is_bad gathered) all_tables) [
+      files-first : files_problem seen defs ≡ (elim (find (is_unusable gathered) all_tables) [
         | Some table ↦ Some (bad_table gathered table)
         | None ↦ first_some (settings_problem (unwrap_or defs []) ∷ [])
       ])
-      files-first = first-of (is_bad gathered)
+      files-first = first-of (is_unusable gathered)
           (λ table. table_problem table (table_of seen table)) (bad_table gathered) table-problem
           all_tables (settings_problem (unwrap_or defs []) ∷ [])
 
       -- the first claim
       pub problem-first : (problem : FileProblem) → first_problem gathered ≡ Some problem →
           files_problem seen defs ≡ Some problem
-      problem-first problem is = files-first ∙ by-table (find (is_bad gathered) all_tables) is
+      problem-first problem is = files-first ∙ by-table (find (is_unusable gathered) all_tables) is
         where
           by-settings : (large : Bool) → IsKept large gathered.defs defs →
               (if large then Some SettingsTooLarge else None) ≡ Some problem →

@@ -22,7 +22,7 @@ use Rattle.lock_steps.specs.Gathered.{AreUnread, Gathered, awaits, first_gathere
 use Rattle.lock_steps.specs.NextCall.{next_or}
 use Rattle.lock_steps.specs.States.{Lister}
 use Rattle.lock_steps.specs.Stands.{HasJudged}
-use Rattle.lock_steps.specs.Watching.{Gatherer, HasGathered, ReadsIntentFirst, ReadsOn, gathering_call, next_name}
+use Rattle.lock_steps.specs.Watching.{Gatherer, HasGathered, ReadsIntentFirst, GathersOn, gathering_call, next_left}
 use Rattle.account_model.specs.declared.tool.Tool.{Tool}
 use Rattle.suite_answers.specs.declared.cause.Which.TheVariants.{File}
 use Rattle.suite_answers.specs.declared.cause.Cause.{Cause}
@@ -72,9 +72,9 @@ input-quiet Defs is given stood met shows = shows
 input-quiet name is given stood met shows = absurd (true≢false (sym is))
 
 -- so no read of a gatherer shows a cause
-pub gather-quiet : (reading : Gatherer) → is_input (next_name reading) ≡ true →
-    IsQuietFor (reads (next_name reading)) (HasGathered reading)
-gather-quiet reading is given stood held = input-quiet (next_name reading) is given stood
+pub gather-quiet : (reading : Gatherer) → is_input (next_left reading) ≡ true →
+    IsQuietFor (reads (next_left reading)) (HasGathered reading)
+gather-quiet reading is given stood held = input-quiet (next_left reading) is given stood
 
 -- the names that are left are such
 pub unread-input : (large left : List Name) → AreUnread large left →
@@ -98,7 +98,7 @@ watch-came watcher wanted (Err came) fault shown = inl (ap Err (sym shown))
 
 -- and so did that of each further read
 pub gather-came : (reading : Gatherer) (answer : Result Found FolderFault) (fault : FolderFault) →
-    ReadsOn reading answer (Err fault) → Came answer fault
+    GathersOn reading answer (Err fault) → Came answer fault
 gather-came reading (Ok found_too_large) NoMemory shown = inr (found_too_large, refl, refl)
 gather-came reading (Err came) fault shown = inl (ap Err (sym shown))
 gather-came reading (Ok found) fault shown = absurd shown
@@ -113,8 +113,8 @@ watch-on watcher wanted (Err fault) reading shown state = absurd shown
 
 -- nor does a further read that leads on
 pub gather-on : (reading : Gatherer) (answer : Result Found FolderFault) (more : Gatherer) →
-    ReadsOn reading answer (Ok more) → is_input (next_name reading) ≡ true → (state : State) →
-    MeetsBy (reads (next_name reading)) answer (HasGathered reading) state
+    GathersOn reading answer (Ok more) → is_input (next_left reading) ≡ true → (state : State) →
+    MeetsBy (reads (next_left reading)) answer (HasGathered reading) state
 gather-on reading (Ok found) more shown is state =
     λ stood held met shows. absurd (gather-quiet reading is found stood held met shows)
 gather-on reading (Err fault) more shown is state = absurd shown
@@ -129,7 +129,7 @@ watch-keeps watcher wanted (Err fault) reading shown = absurd shown
 
 -- a gatherer that reads on keeps both
 pub gather-keeps : (reading : Gatherer) (answer : Result Found FolderFault) (more : Gatherer) →
-    ReadsOn reading answer (Ok more) →
+    GathersOn reading answer (Ok more) →
     (more.token ≡ reading.token) × (more.wanted ≡ reading.wanted)
 gather-keeps reading (Ok found) more shown =
     (ap (λ (one : Gatherer). one.token) shown, ap (λ (one : Gatherer). one.wanted) shown)
@@ -202,7 +202,7 @@ watch-calls watcher wanted (Err fault) reading shown = absurd shown
 
 -- a read leaves one fewer
 pub gather-calls : (reading : Gatherer) (answer : Result Found FolderFault) (more : Gatherer) →
-    ReadsOn reading answer (Ok more) → 0 < length reading.left →
+    GathersOn reading answer (Ok more) → 0 < length reading.left →
     LeavesFewer (Gathering reading) (Gathering more)
 gather-calls reading (Ok found) more shown some =
     let rest = ap (λ (one : Gatherer). length one.left) shown ∙ length-drop 1 reading.left in
@@ -212,7 +212,7 @@ gather-calls reading (Err fault) more shown some = absurd shown
 
 -- while any name is left it reads that
 pub gathers-next : (reading : Gatherer) → 0 < length reading.left →
-    gathering_call reading ≡ reads (next_name reading)
+    gathering_call reading ≡ reads (next_left reading)
 gathers-next reading = by-left reading.left
   where
     by-left : (left : List Name) → 0 < length left →

@@ -37,7 +37,7 @@ use Rattle.suite_session.specs.Reports.{AnswersShown}
 use Rattle.suite_session.specs.Turning.{TakesTurn, GaveLeft, HasAnswered, StepsTo}
 use Rattle.suite_session.specs.Staging.{HasMovedAll}
 use Rattle.suite_session.specs.Stands.{FindsNoMemory, HasLeft, MakesOne, IsStopped, StagesTo, StaysTold, TurnsTo}
-use Rattle.suite_session.specs.Telling.{DropsNothing, MayFollow, Tells as CauseTells}
+use Rattle.suite_session.specs.Telling.{DropsNothing, MayFollow, Covers as CauseTells}
 use Rattle.suite_session.proofs.TellingLemmas.{tells-others, tells-own}
 use Rattle.suite_session.proofs.LeavingLemmas.{left-same}
 use Rattle.suite_session.proofs.BelongsLemmas.{state-own}

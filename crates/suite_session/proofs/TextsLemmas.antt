@@ -32,7 +32,7 @@ use Rattle.suite_session.specs.declared.state.State.{State}
 use Rattle.suite_session.specs.declared.state.State.TheVariants.{Moving, Recovering, BackingUp, Committing, Installing, Unlocking, Freeing, Gathering, Answering}
 use Rattle.suite_session.specs.NextCall.{state_call}
 use Rattle.suite_session.specs.Stands.{AnswersWith, LeavesWith}
-use Rattle.suite_session.specs.Texts.{ArePieces, GoesOn, HoldsText, IsCut, StagedText, StagesOn, begun_text, pieces_behind, stager_text, table_text, text_at, text_in}
+use Rattle.suite_session.specs.Texts.{ArePieces, GoesOn, HoldsText, CutsOneText, StagedText, StagesOn, begun_text, pieces_behind, stager_text, table_text, text_at, text_in}
 use Rattle.suite_session.proofs.AppendsLemmas.{begun-left}
 
 -- ---- A text in its pieces
@@ -73,7 +73,7 @@ behind-first text = of-count (λ place. piece_at place text) (piece_count text)
         ap (λ (left : ℕ). map f (range_with_len 1 left)) same
 
 -- so a table's text has these pieces
-table-cut : (text : Bytes) → IsCut (piece_at 0 text) (pieces_behind 1 text)
+table-cut : (text : Bytes) → CutsOneText (piece_at 0 text) (pieces_behind 1 text)
 table-cut text = record { text = text; is_first = refl; behind = behind-first text }
 
 -- ---- What is staged behind a call
@@ -129,7 +129,7 @@ staged_then state = None
 
 -- for a text
 module _ (staged : ℕ) (text : Bytes) (name to : Name)
-    (cut : (first : Bytes) (further : List Bytes) → IsCut first further →
+    (cut : (first : Bytes) (further : List Bytes) → CutsOneText first further →
     ArePieces name first further) where
   -- the next piece
   piece-on : 0 < pieces_left staged text → StagesOn (appends name (piece_at staged text))

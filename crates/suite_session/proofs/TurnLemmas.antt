@@ -37,7 +37,7 @@ use Rattle.suite_session.specs.Locking.{cause_of_fault}
 use Rattle.suite_session.specs.Looks.{LooksLess}
 use Rattle.suite_session.specs.NextCall.{state_call}
 use Rattle.suite_session.specs.Telling.{IsToTell, MayFollow}
-use Rattle.suite_session.specs.Stands.{Extends, FindsNoMemory, Gives, MakesOne, MayGive, HasLeft, StandsAs, AnswersWith, LeavesWith, IsOutside, IsStopped, StagesTo, TellsOutside, Turns}
+use Rattle.suite_session.specs.Stands.{Extends, FindsNoMemory, HasToGive, MakesOne, MayGive, HasLeft, StandsAs, AnswersWith, LeavesWith, IsOutside, IsStopped, StagesTo, TellsOutside, Turns}
 use Rattle.suite_session.proofs.AskingLemmas.{asks-once}
 use Rattle.suite_session.proofs.WritingLemmas.{IsTurnCall, turn-no-answer, turn-writes-then}
 use Rattle.suite_session.proofs.CauseLemmas.{IsMetAs, IsPlain, answers-fault, fault-failed, fault-plain, fault-stage, given-cause, plain-shown, plain-undecided, told-cause, told-met, told-plain, told-says, told-stage}
@@ -212,7 +212,7 @@ module _ (before now : Moment) (runner : Runner) (commit : CommitStage) (Held : 
   gives-plain : (cause : Cause) (answer : FinalAnswer) →
       commit ≡ stage_of answer.outcome.cause → IsPlain cause →
       IsTold runner.asked.request.tool cause answer → HasMetNow now runner cause →
-      Gives now runner answer
+      HasToGive now runner answer
   gives-plain cause answer is plain tells met =
       let shown = shown-now runner cause answer now.told plain tells met in
       record {

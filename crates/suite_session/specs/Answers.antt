@@ -11,7 +11,7 @@ use Rattle.suite_answers.specs.declared.cause.Cause.{Cause}
 use Rattle.suite_answers.specs.declared.cause.Cause.TheVariants.{Changed as IsChanged, Same as IsSame, Refused as IsRefused, RefusedLine as IsRefusedLine, Syntax, BatchSyntax, TooLarge, NoTable, BadSetting, InputFault, OutputFault, ClockFault, Memory}
 use Rattle.suite_answers.specs.declared.answer.Answer.{Answer}
 use Rattle.suite_answers.specs.Reasons.{stage_of}
-use Rattle.suite_answers.specs.Answers.{told, says}
+use Rattle.suite_answers.specs.Answers.{answer_for, says}
 use Rattle.acct_outside.specs.declared.CommitStage.{CommitStage}
 use Rattle.account_model.specs.declared.tool.Tool.{Tool}
 use Rattle.account_model.specs.SeenFiles.{seen_files}
@@ -65,7 +65,7 @@ memory_answer stage = says (Memory stage) memory_status []
 -- a session's answer to a cause that is no tool's
 abbrev pub given_for : Tool → Cause → Answer
 given_for tool (Memory stage) = memory_answer stage
-given_for tool cause = told tool cause
+given_for tool cause = answer_for tool cause
 
 -- the answer tells of the cause; or there was no memory for its text
 abbrev pub IsTold : Tool → Cause → Answer → Type 0

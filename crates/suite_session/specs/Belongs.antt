@@ -22,7 +22,7 @@ use Rattle.suite_session.specs.declared.session.Phase.TheVariants.{Waiting, Begu
 use Rattle.suite_session.specs.Runner.{Runner}
 use Rattle.suite_session.specs.Answers.{IsTold, Says, after_streams}
 use Rattle.suite_session.specs.Writing.{WroteDue}
-use Rattle.suite_session.specs.Bound.{HasCalled, HasCalledFree, IsWithin}
+use Rattle.suite_session.specs.Bound.{HasCalled, HasCalledFree, IsWithinBound}
 use Rattle.suite_session.specs.Due.{IsDue}
 use Rattle.suite_session.specs.Locking.{cause_of_fault}
 use Rattle.suite_session.specs.Looks.{HasLooksLeft, LooksOnce}
@@ -83,7 +83,7 @@ pub record HasEnded (runner : Runner) (given : Answer) (status : ℕ) (past : Pa
       HasLeft runner.token given.outcome.cause past
   pub moved : (IsStopped given.outcome.cause → ⊥) →
       HasMovedAll (standing runner.token past.history)
-  pub within : IsWithin runner.token past.history
+  pub within : IsWithinBound runner.token past.history
   pub looked : LooksOnce runner.token past.history
   pub wrote : WroteDue runner.token past.history
   pub free : is_report runner.asked.request ≡ true → RunsFree runner.token past.history
@@ -123,8 +123,8 @@ Belongs now (Begun runner state) = IsOnItsWay now runner state
 Belongs now (Over runner answer) = HasGiven now runner answer
 
 -- the two sessions don't have one token
-abbrev pub AreApart : Phase → Phase → Type 0
-AreApart one other = (token : Token) → token_of one ≡ Some token → token_of other ≡ Some token → ⊥
+abbrev pub AreTwo : Phase → Phase → Type 0
+AreTwo one other = (token : Token) → token_of one ≡ Some token → token_of other ≡ Some token → ⊥
 
 -- ---- What keeps it so
 

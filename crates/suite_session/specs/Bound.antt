@@ -27,7 +27,7 @@ calls_of events = map (λ event. event.call) events
 
 -- the session's events but appends are at most most_calls, and one for each lower lock that its second
 -- listing showed; they stage texts in their pieces, with most_appends at most
-pub record IsWithin (token : Token) (history : History) : Type 0 where
+pub record IsWithinBound (token : Token) (history : History) : Type 0 where
   pub lower : ℕ
   pub counts : CountsLower token history lower
   pub within : others_in (own_events token history) ≤ most_calls + lower
@@ -39,7 +39,7 @@ pub record IsWithin (token : Token) (history : History) : Type 0 where
 pub record IsBounded (admits : Admission) (token : Token) (old new : History) : Type 0 where
   pub made : ℕ
   pub grows : Grows admits token old made new
-  pub within : IsWithin token new
+  pub within : IsWithinBound token new
 
 -- On its way a session has made so many calls that with those that are left they are within the bound;
 -- they lead to what it has staged. Before its second listing as many lower locks are counted as one can

@@ -19,7 +19,7 @@ use Rattle.suite_session.specs.Texts.{GoesOn}
 
 -- the session listed the locks once its create was done, its own was the greatest, and there were so
 -- many lower ones
-pub record ShowsLower (token : Token) (history : History) (lower : ℕ) : Type 0 where
+pub record ListedLower (token : Token) (history : History) (lower : ℕ) : Type 0 where
   pub number : ℕ
   pub numbers : List ℕ
   pub listed : Met token lists numbers (HasMade (record { token = token; number = number })) history
@@ -28,7 +28,7 @@ pub record ShowsLower (token : Token) (history : History) (lower : ℕ) : Type 0
 
 -- so many lower locks, which the history shows, or none
 abbrev pub CountsLower : Token → History → ℕ → Type 0
-CountsLower token history lower = (lower ≡ 0) ⊎ ShowsLower token history lower
+CountsLower token history lower = (lower ≡ 0) ⊎ ListedLower token history lower
 
 -- how many lower locks than the greatest a listing showed
 abbrev pub lower_in : List ℕ → ℕ

@@ -51,8 +51,8 @@ LoadsTo runner (More reader) state = state ≡ Loading reader
 LoadsTo runner (Done inputs) state = DecidesTo runner inputs state
 
 -- the state after a read that leads no further: a refusal leaves
-abbrev pub EndsAt : Tool → LoadEnd → State → Type 0
-EndsAt tool (Fault fault) state = AnswersWith tool (cause_of_fault fault.stage fault.fault) state
-EndsAt tool (TooLarge name keeper) state =
+abbrev pub EndsLoad : Tool → LoadEnd → State → Type 0
+EndsLoad tool (Fault fault) state = AnswersWith tool (cause_of_fault fault.stage fault.fault) state
+EndsLoad tool (TooLarge name keeper) state =
     LeavesWith tool keeper (IsTooLarge (File name)) state
-EndsAt tool (NoTable table keeper) state = LeavesWith tool keeper (HasNoTable table) state
+EndsLoad tool (NoTable table keeper) state = LeavesWith tool keeper (HasNoTable table) state

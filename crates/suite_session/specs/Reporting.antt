@@ -21,8 +21,8 @@ use Rattle.suite_session.specs.Deeds.{is_change}
 use Rattle.suite_session.specs.Stands.{AnswersWith}
 
 -- the table can't be used: it is too large, or it must stand and is absent
-abbrev pub is_bad : Gathered → Tab → Bool
-is_bad gathered table = is_large gathered (Table table)
+abbrev pub is_unusable : Gathered → Tab → Bool
+is_unusable gathered table = is_large gathered (Table table)
     || (must_stand table && is_none (table_of gathered.files table))
 
 -- what is wrong with such a table
@@ -36,7 +36,7 @@ bad_settings gathered = if is_large gathered Defs then Some SettingsTooLarge els
 
 -- what is wrong with the first file that can't be used, of the tables in their order and login.defs
 abbrev pub first_problem : Gathered → Option FileProblem
-first_problem gathered = elim (find (is_bad gathered) all_tables) [
+first_problem gathered = elim (find (is_unusable gathered) all_tables) [
   | Some table ↦ Some (bad_table gathered table)
   | None ↦ bad_settings gathered
 ]

@@ -100,7 +100,7 @@ LeavesWith tool keeper cause (Answering answer) = answer ≡ memory_answer (stag
 LeavesWith tool keeper cause state = ⊥
 
 -- the runner has this answer to give: it says what its cause says, and its events show it
-pub record Gives (now : Moment) (runner : Runner) (answer : Answer) : Type 0 where
+pub record HasToGive (now : Moment) (runner : Runner) (answer : Answer) : Type 0 where
   pub says : Says runner.asked answer answer.outcome.cause
   pub due : IfSome now.told (IsDue runner answer)
 
@@ -108,7 +108,7 @@ pub record Gives (now : Moment) (runner : Runner) (answer : Answer) : Type 0 whe
 -- must, unless a fault or want of memory stopped it
 pub record MayGive (now : Moment) (runner : Runner) (answer : Answer) : Type 0 where
   pub may_answer : MayAnswer now runner.token
-  pub gives : Gives now runner answer
+  pub gives : HasToGive now runner answer
   pub left : (IsStopped answer.outcome.cause → ⊥) →
       IfSome now.told (HasLeft runner.token answer.outcome.cause)
 
@@ -132,7 +132,7 @@ pub record StandsInstalling (now : Moment) (runner : Runner) (walker : Walker) (
   pub same : token_of walker ≡ runner.token
   pub stands : At now runner Committed (Installs walker)
   pub changed : answer.outcome.cause ≡ Changed
-  pub gives : Gives now runner answer
+  pub gives : HasToGive now runner answer
 
 -- It keeps its number, and has this answer to give, which tells of no fault outside the session.
 pub record StandsUnlocking (now : Moment) (runner : Runner) (keeper : Kept) (answer : Answer)
@@ -141,7 +141,7 @@ pub record StandsUnlocking (now : Moment) (runner : Runner) (keeper : Kept) (ans
   pub stands : At now runner (stage_of answer.outcome.cause) (Keeps keeper KnowsAnything)
   pub clean : IfSome now.told (KnowsDecided runner.token answer.outcome.cause)
   pub quiet : IsOutside answer.outcome.cause → ⊥
-  pub gives : Gives now runner answer
+  pub gives : HasToGive now runner answer
 
 -- it has staged the free text, and has this answer to give
 pub record StandsFreeing (now : Moment) (runner : Runner) (freeing : Maker) (answer : Answer)
@@ -150,7 +150,7 @@ pub record StandsFreeing (now : Moment) (runner : Runner) (freeing : Maker) (ans
   pub stands : At now runner (stage_of answer.outcome.cause) (HasStagedFree freeing)
   pub clean : IfSome now.told (KnowsDecided runner.token answer.outcome.cause)
   pub quiet : IsOutside answer.outcome.cause → ⊥
-  pub gives : Gives now runner answer
+  pub gives : HasToGive now runner answer
 
 -- the runner stands in the state
 abbrev pub StandsAs : Moment → Runner → State → Type 0

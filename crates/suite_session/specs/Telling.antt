@@ -41,16 +41,16 @@ OnlyFollow token met =
 -- whatever a session has met at some part of its history it is to tell so, and after that part come
 -- only calls that may follow
 abbrev pub TellsMet : (Cause → Type 0) → Token → History → Type 0
-TellsMet Tells token history = (newer older : History) → history ≡ newer ++ older → (met : Cause) →
-    ComesOfCall met → MustTell token older met → Tells met × OnlyFollow token met newer
+TellsMet Covers token history = (newer older : History) → history ≡ newer ++ older → (met : Cause) →
+    ComesOfCall met → MustTell token older met → Covers met × OnlyFollow token met newer
 
 -- an answer with the first cause tells what was met: that itself, or what came later
-abbrev pub Tells : Cause → Cause → Type 0
-Tells cause met = (cause ≡ met) ⊎ IsLater cause
+abbrev pub Covers : Cause → Cause → Type 0
+Covers cause met = (cause ≡ met) ⊎ IsLater cause
 
 -- an answer with this cause drops nothing that the session has met
 abbrev pub DropsNothing : Token → Cause → History → Type 0
-DropsNothing token cause = TellsMet (Tells cause) token
+DropsNothing token cause = TellsMet (Covers cause) token
 
 -- a session in this state is to tell this of all that it has met; on its way to its answer it has met
 -- nothing, unless that is the answer which it leaves with
@@ -58,7 +58,7 @@ abbrev pub IsToTell : State → Cause → Type 0
 IsToTell (Withdrawing loser) met = Outrun loser.number loser.greatest ≡ met
 IsToTell (Unlocking keeper answer) met = answer.outcome.cause ≡ met
 IsToTell (Freeing freeing answer) met = answer.outcome.cause ≡ met
-IsToTell (Answering answer) met = Tells answer.outcome.cause met
+IsToTell (Answering answer) met = Covers answer.outcome.cause met
 IsToTell state met = ⊥
 
 -- a session in this state drops nothing that it has met

@@ -30,7 +30,7 @@ text_at name further = Some (record { name = name; further = further })
 
 -- one text, cut at each 65,536 bytes, has this piece first and these behind it; an empty one has an empty
 -- first piece
-pub record IsCut (first : Bytes) (further : List Bytes) : Type 0 where
+pub record CutsOneText (first : Bytes) (further : List Bytes) : Type 0 where
   pub text : Bytes
   pub is_first : first ≡ piece_at 0 text
   pub behind : further ≡ drop 1 (pieces_of text)
@@ -42,8 +42,8 @@ pub record IsIntentCut (first : Bytes) (further : List Bytes) : Type 0 where
 
 -- These are the pieces of a text of the staging name: of a table, a backup or an intent, or the free text.
 abbrev pub ArePieces : Name → Bytes → List Bytes → Type 0
-ArePieces (Staged table) first further = IsCut first further
-ArePieces BackupStage first further = IsCut first further
+ArePieces (Staged table) first further = CutsOneText first further
+ArePieces BackupStage first further = CutsOneText first further
 ArePieces IntentStage first further = IsIntentCut first further
 ArePieces FreeStage first further = (first ≡ free_text) × (further ≡ [])
 ArePieces name first further = ⊥

@@ -19,7 +19,7 @@ use Rattle.suite_session.specs.Counts.{CountsTo}
 use Rattle.suite_session.specs.Locking.{cause_of_fault}
 use Rattle.suite_session.specs.NextCall.{state_call}
 use Rattle.suite_session.specs.Stands.{AsksOnce, FindsNoMemory, IsAnswering, IsOutside, MakesOne, MayGive, TellsOutside, Turns, TurnsTo}
-use Rattle.suite_session.specs.Belongs.{AreApart, Belongs, CameTo, HasEnded, IsLedTo}
+use Rattle.suite_session.specs.Belongs.{AreTwo, Belongs, CameTo, HasEnded, IsLedTo}
 
 -- ---- The begin
 
@@ -114,9 +114,9 @@ SessionTurns before now old new = ⊥
 -- Another session belongs to the folder still, and where a history is told it has another token.
 pub record KeepsOther (before now : Moment) (new other : Phase) : Type 0 where
   pub belongs : Belongs now other
-  pub apart : IfSome before.told (λ past. AreApart new other)
+  pub apart : IfSome before.told (λ past. AreTwo new other)
 
 -- so it is with each that belonged there with another token
 abbrev pub KeepsOthers : Moment → Moment → Phase → Phase → Type 0
-KeepsOthers before now old new = (other : Phase) → Belongs before other → AreApart old other →
+KeepsOthers before now old new = (other : Phase) → Belongs before other → AreTwo old other →
     KeepsOther before now new other

@@ -1,5 +1,5 @@
 // The turns in which a keeper loads the files. After the last read the tool decides.
-ghost use Rattle.suite_session.specs.Loading.{DecidesOn, DecidesTo, EndsAt};
+ghost use Rattle.suite_session.specs.Loading.{DecidesOn, DecidesTo, EndsLoad};
 ghost use Rattle.suite_session.specs.Stands.{StandsAs};
 ghost use Rattle.suite_session.specs.Turning.{TakesTurn};
 
@@ -75,7 +75,7 @@ fn backing_up(
 
 // A file is too large or absent: the keeper frees its lock, but after a fault of the folder.
 fn ended(alloc: Global, runner: &Runner, end: LoadEnd) -> State
-    ensures { EndsAt runner.now.asked.request.tool end result }
+    ensures { EndsLoad runner.now.asked.request.tool end result }
 {
     match end {
         LoadEnd::Fault(fault) => stopped(alloc, runner, fault),

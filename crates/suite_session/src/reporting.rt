@@ -10,7 +10,7 @@ ghost use Rattle.acct_text.specs.Tables.{all_tables};
 ghost use Rattle.account_model.specs.Request.{is_report};
 ghost use Rattle.lock_steps.specs.Watching.{gathering_left};
 ghost use Rattle.suite_session.specs.Answers.{cause_of_problem};
-ghost use Rattle.suite_session.specs.Reporting.{AnswersFiles, AnswersOn, ReportsTo, bad_table, first_problem, is_bad};
+ghost use Rattle.suite_session.specs.Reporting.{AnswersFiles, AnswersOn, ReportsTo, bad_table, first_problem, is_unusable};
 ghost use Rattle.suite_session.specs.Stands.{AnswersWith, StandsAs};
 ghost use Rattle.suite_session.specs.Turning.{TakesTurn};
 
@@ -135,10 +135,10 @@ fn first_problem(shown: &Shown) -> Option<Cause>
 
 // The first table that can't be used: it is too large, or must stand and is absent.
 fn first_bad(shown: &Shown) -> Option<Tab>
-    ensures { result ≡ find (is_bad shown.now.gathered) all_tables }
+    ensures { result ≡ find (is_unusable shown.now.gathered) all_tables }
 {
     for table in &Tab::all() {
-        if is_bad(shown, *table) {
+        if is_unusable(shown, *table) {
             return Some(*table);
         }
     }
@@ -146,8 +146,8 @@ fn first_bad(shown: &Shown) -> Option<Tab>
 }
 
 // Whether the table can't be used.
-fn is_bad(shown: &Shown, table: Tab) -> bool
-    ensures { result ≡ is_bad shown.now.gathered table }
+fn is_unusable(shown: &Shown, table: Tab) -> bool
+    ensures { result ≡ is_unusable shown.now.gathered table }
 {
     let must_stand = matches!(table, Tab::Passwd | Tab::Group);
     shown.too_large(Name::Table(table)) || (must_stand && shown.files().table(table).is_none())

@@ -21,7 +21,7 @@ use Rattle.account_model.proofs.DeedLaws.{files-stand}
 use Rattle.tool_answers.specs.Decisions.{Decides, decision_by, decision_of, written_decision}
 use Rattle.tool_answers.specs.declared.decision.Output.{Output}
 use Rattle.table_edits.specs.Deciding.{IsCarriedOut, written_with}
-use Rattle.carried_tables.specs.Changes.{AreLeft, StandWhere}
+use Rattle.carried_tables.specs.Changes.{UneditedStay, StandWhere}
 use Rattle.carried_tables.specs.declared.touched_tables.TouchedTables.{TouchedTables}
 
 -- what a tool made has each table where it stood
@@ -44,18 +44,18 @@ made-left action files made is =
 -- so a table without edits is as it was
 pub left-by :
     (script edits : Script) (touched : TouchedTables) (first last : Files)
-    → ((files : Files) → AreLeft touched files (files_after script files))
+    → ((files : Files) → UneditedStay touched files (files_after script files))
     → script ≡ edits
     → last ≡ files_after edits first
-    → AreLeft touched first last
+    → UneditedStay touched first last
 left-by script edits touched first last left same is =
-    subst (λ (files : Files). AreLeft touched first files)
+    subst (λ (files : Files). UneditedStay touched first files)
     (ap (λ (one : Script). files_after one first) same ∙ sym is) (left first)
 
 -- where all may be edited, nothing is said of any
 pub all-touched :
     (first last : Files)
-    → AreLeft (record {
+    → UneditedStay (record {
       passwd = true;
       shadow = true;
       group = true;

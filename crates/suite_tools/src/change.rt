@@ -7,7 +7,7 @@ ghost use Rattle.account_model.specs.WrittenScript.{IsWrittenScript};
 ghost use Rattle.acct_text.specs.ChangedTables.{changed_tables};
 ghost use Rattle.acct_text.specs.Files.{table_of};
 ghost use Rattle.tool_answers.specs.Decisions.{decision_by};
-ghost use Rattle.carried_tables.specs.Changes.{AreLeft, StandWhere};
+ghost use Rattle.carried_tables.specs.Changes.{UneditedStay, StandWhere};
 ghost use Rattle.table_edits.specs.SeenScript.{seen_script};
 ghost use Rattle.suite_tools.specs.Carrying.{EditsDecide, IsOfAction};
 
@@ -42,7 +42,8 @@ pub(crate) fn decide_edits(
 
 // The tables of which the script has edits.
 fn touched_by(script: &Script) -> TouchedTables
-    ensures { (files : Files) → AreLeft result files (files_after (seen_script script.now) files) }
+    ensures { (files : Files) →
+        UneditedStay result files (files_after (seen_script script.now) files) }
 {
     TouchedTables {
         passwd: !script.passwd.is_empty(),
@@ -64,7 +65,7 @@ pub(crate) fn decide_change(
     output: Output,
 ) -> Result<Decision, AllocError>
     requires stand { StandWhere first.now tables.old }
-    requires left { AreLeft touched first.now tables.old }
+    requires left { UneditedStay touched first.now tables.old }
     ensures { IfOk result (λ decision. decision ≡ decision_by
         (changed_tables (table_of first.now) (table_of tables.old)) output) }
 {

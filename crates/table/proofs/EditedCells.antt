@@ -14,15 +14,15 @@ use Rattle.account_model.specs.Format.{Format}
 use Rattle.account_model.specs.RecordEdits.{IsWrittenEdit}
 use Rattle.account_model.specs.Written.{IsWritten}
 use Rattle.acct_tables.specs.TableLines.{text_is_named}
-use Rattle.line_edits.specs.Naming.{Leaves}
+use Rattle.line_edits.specs.Naming.{LeavesIt}
 use Rattle.table.specs.Cells.{cell_at, text_added, texts_put}
 use Rattle.table.specs.declared.cell.Cell.{Cell}
 use Rattle.table.specs.declared.key_places.Spot.TheVariants.{At}
-use Rattle.table.specs.KeyPlaces.{Notes, Widens, has_key}
+use Rattle.table.specs.KeyPlaces.{NotesOf, Widens, has_key}
 use Rattle.table.specs.Keys.{BringsOnly}
 use Rattle.account_model.specs.RecordEdits.{TellsSame}
 use Rattle.table.specs.Changed.{text_becomes, text_instead, text_put, texts_becoming, texts_with}
-use Rattle.table.specs.TableCells.{AreKept, HoldsIn, HoldsOf, IsTold}
+use Rattle.table.specs.TableCells.{AreKept, HoldsIn, HoldsOf, IsKeyed}
 use Rattle.table.proofs.ChangedTexts.{becoming-all}
 use Rattle.table.proofs.KeptCells.{found-sound, found-told, kept-added, kept-noted, kept-put, texts-noted}
 
@@ -64,7 +64,7 @@ module _ {R : Type 0} (format : Format R) where
   left-text :
       (f : R → List R) (text : List ℕ)
       → TellsSame format
-      → Leaves format f text
+      → LeavesIt format f text
       → texts_becoming format f text ≡ text ∷ []
   left-text f text tells leaves = by (format.read text) leaves
     where
@@ -86,10 +86,10 @@ module _ {R : Type 0} (format : Format R) where
   pub left-texts :
       (f : R → List R) (texts : List (List ℕ))
       → TellsSame format
-      → AllByRecursion (Leaves format f) texts
+      → AllByRecursion (LeavesIt format f) texts
       → AllByRecursion (λ text. texts_becoming format f text ≡ text ∷ []) texts
   left-texts f texts tells leaves =
-      All-weaker (Leaves format f) (λ text. texts_becoming format f text ≡ text ∷ [])
+      All-weaker (LeavesIt format f) (λ text. texts_becoming format f text ≡ text ∷ [])
       (λ text left. left-text f text tells left) texts leaves
 
   module _ (keys_of : R → List ℕ) (before after : ℕ → Option (List ℕ)) (place : ℕ) where
@@ -97,8 +97,8 @@ module _ {R : Type 0} (format : Format R) where
     pub printed-told :
         (item : R)
         → IsWritten format item
-        → Notes (keys_of item) (At place) before after
-        → HoldsOf format (IsTold keys_of after place) (format.print item)
+        → NotesOf (keys_of item) (At place) before after
+        → HoldsOf format (IsKeyed keys_of after place) (format.print item)
     printed-told item written notes = λ r reads key has.
         let both : Some item ≡ Some r = sym written.reads ∙ reads in
         let same : r ≡ item = cc in
@@ -109,14 +109,14 @@ module _ {R : Type 0} (format : Format R) where
         (item : R) (text : List ℕ) (cells : List Cell)
         → IsWritten format item
         → text ≡ format.print item
-        → Notes (keys_of item) (At place) before after
+        → NotesOf (keys_of item) (At place) before after
         → All (λ cell. cell.place < place) cells
         → AreKept format keys_of before cells
         → AreKept format keys_of after (text_added place text cells)
     new-kept item text cells written printed notes behind kept =
         kept-added format keys_of after place text cells
         (subst (Lacks newline) (sym printed) written.one_line)
-        (subst (HoldsOf format (IsTold keys_of after place)) (sym printed)
+        (subst (HoldsOf format (IsKeyed keys_of after place)) (sym printed)
         (printed-told item written notes))
         behind
         (kept-noted format keys_of before after cells notes.kept kept)
@@ -128,25 +128,25 @@ module _ {R : Type 0} (format : Format R) where
       here-lines = (found-sound format keys_of before place cells cell kept found).one_line
 
       -- and told of
-      here-told : Widens before after → HoldsIn format (IsTold keys_of after place) cell
+      here-told : Widens before after → HoldsIn format (IsKeyed keys_of after place) cell
       here-told widens =
           texts-noted format keys_of before after place cell.texts widens
           (found-told format keys_of before place cells cell kept found)
 
       module _ (f : R → List R) (brought : List ℕ) (written : IsWrittenEdit format (Become f))
-          (notes : Notes brought (At place) before after)
+          (notes : NotesOf brought (At place) before after)
           (brings : BringsOnly keys_of f brought) where
         -- the records that one of the place becomes are told of
         made-told :
             (text : List ℕ) (r : R)
             → Lacks newline text
-            → HoldsOf format (IsTold keys_of after place) text
+            → HoldsOf format (IsKeyed keys_of after place) text
             → format.read text ≡ Some r
-            → AllByRecursion (λ s. HoldsOf format (IsTold keys_of after place) (format.print s))
+            → AllByRecursion (λ s. HoldsOf format (IsKeyed keys_of after place) (format.print s))
             (f r)
         made-told text r one_line told reads =
             both-facts (IsWritten format) (Contains (f r))
-            (λ s. HoldsOf format (IsTold keys_of after place) (format.print s))
+            (λ s. HoldsOf format (IsKeyed keys_of after place) (format.print s))
             (λ s printed among q again key has.
             let both : Some s ≡ Some q = sym printed.reads ∙ again in
             let same : q ≡ s = cc in
@@ -173,13 +173,13 @@ module _ {R : Type 0} (format : Format R) where
             (λ s printed. printed.one_line) (f r) (written text r one_line reads)))
             here-lines)
             (flat-all
-            (λ text. Lacks newline text × HoldsOf format (IsTold keys_of after place) text)
-            (HoldsOf format (IsTold keys_of after place)) made cell.texts
+            (λ text. Lacks newline text × HoldsOf format (IsKeyed keys_of after place) text)
+            (HoldsOf format (IsKeyed keys_of after place)) made cell.texts
             (λ text both.
-            becoming-all format f (HoldsOf format (IsTold keys_of after place)) text both.1
+            becoming-all format f (HoldsOf format (IsKeyed keys_of after place)) text both.1
             (λ r reads. made-told text r both.0 both.1 reads))
-            (both-facts (Lacks newline) (HoldsOf format (IsTold keys_of after place))
-            (λ text. Lacks newline text × HoldsOf format (IsTold keys_of after place) text)
+            (both-facts (Lacks newline) (HoldsOf format (IsKeyed keys_of after place))
+            (λ text. Lacks newline text × HoldsOf format (IsKeyed keys_of after place) text)
             (λ text one_line told. (one_line, told)) cell.texts here-lines (here-told notes.kept)))
             cells (kept-noted format keys_of before after cells notes.kept kept))
 
@@ -215,13 +215,13 @@ module _ {R : Type 0} (format : Format R) where
         pub with-kept :
             (texts : List (List ℕ))
             → IsWritten format item
-            → Notes (keys_of item) (At place) before after
+            → NotesOf (keys_of item) (At place) before after
             → texts ≡ texts_with format item cell.texts
             → AreKept format keys_of after (texts_put place texts cells)
         with-kept texts written notes are =
             subst (λ texts. AreKept format keys_of after (texts_put place texts cells)) (sym are)
             (kept-put format keys_of after place (texts_with format item cell.texts)
             (with-all (Lacks newline) written.one_line cell.texts here-lines)
-            (with-all (HoldsOf format (IsTold keys_of after place))
+            (with-all (HoldsOf format (IsKeyed keys_of after place))
             (printed-told item written notes) cell.texts (here-told notes.kept))
             cells (kept-noted format keys_of before after cells notes.kept kept))

@@ -19,7 +19,7 @@ use Rattle.table.specs.Cells.{ArePlaced, cell_at, cell_lines, cells_from, ended_
 use Rattle.table.specs.declared.cell.Cell.{Cell}
 use Rattle.table.specs.KeyPlaces.{Widens}
 use Rattle.table.specs.Changed.{changed_cell, changed_there, texts_becoming}
-use Rattle.table.specs.TableCells.{AreKept, HoldsIn, HoldsOf, HoldsThere, IsSound, IsTold}
+use Rattle.table.specs.TableCells.{AreKept, HoldsIn, HoldsOf, HoldsThere, IsSound, IsKeyed}
 use Rattle.table.proofs.ChangedTexts.{line_with}
 use Rattle.table.proofs.PlaceLemmas.{pairs-first, pairs-others, used-apart, used-itself}
 
@@ -228,11 +228,11 @@ module _ {R : Type 0} (format : Format R) (keys_of : R → List ℕ) where
   pub texts-noted :
       (before after : ℕ → Option (List ℕ)) (place : ℕ) (texts : List (List ℕ))
       → Widens before after
-      → AllByRecursion (HoldsOf format (IsTold keys_of before place)) texts
-      → AllByRecursion (HoldsOf format (IsTold keys_of after place)) texts
+      → AllByRecursion (HoldsOf format (IsKeyed keys_of before place)) texts
+      → AllByRecursion (HoldsOf format (IsKeyed keys_of after place)) texts
   texts-noted before after place texts widens told =
-      All-weaker (HoldsOf format (IsTold keys_of before place))
-      (HoldsOf format (IsTold keys_of after place))
+      All-weaker (HoldsOf format (IsKeyed keys_of before place))
+      (HoldsOf format (IsKeyed keys_of after place))
       (λ text old r reads key has. widens key place (old r reads key has)) texts told
 
   -- where the index tells no less the cells are kept
@@ -244,8 +244,8 @@ module _ {R : Type 0} (format : Format R) (keys_of : R → List ℕ) where
   kept-noted before after cells widens kept = record {
     sound = kept.sound;
     placed = kept.placed;
-    told_of = All-weaker (λ cell. HoldsIn format (IsTold keys_of before cell.place) cell)
-        (λ cell. HoldsIn format (IsTold keys_of after cell.place) cell)
+    told_of = All-weaker (λ cell. HoldsIn format (IsKeyed keys_of before cell.place) cell)
+        (λ cell. HoldsIn format (IsKeyed keys_of after cell.place) cell)
         (λ cell old. texts-noted before after cell.place cell.texts widens old) cells kept.told_of;
   }
 
@@ -264,11 +264,12 @@ module _ {R : Type 0} (format : Format R) (keys_of : R → List ℕ) where
         (place : ℕ) (cells : List Cell) (cell : Cell)
         → AreKept format keys_of told cells
         → cell_at place cells ≡ Some cell
-        → HoldsIn format (IsTold keys_of told place) cell
+        → HoldsIn format (IsKeyed keys_of told place) cell
     found-told place cells cell kept found =
-        subst (λ place. HoldsIn format (IsTold keys_of told place) cell)
+        subst (λ place. HoldsIn format (IsKeyed keys_of told place) cell)
         (found-place place cells cell found)
-        (found-holds (λ cell. HoldsIn format (IsTold keys_of told cell.place) cell) place cells cell
+        (found-holds (λ cell. HoldsIn format (IsKeyed keys_of told cell.place) cell) place cells
+        cell
         kept.told_of found)
 
     -- several texts have an end each
@@ -278,7 +279,7 @@ module _ {R : Type 0} (format : Format R) (keys_of : R → List ℕ) where
         omega (arith, leb-false 2 count (or_parts ended (nat_le 2 count) none).1)
 
     module _ (place : ℕ) (texts : List (List ℕ)) (one_line : AllByRecursion (Lacks newline) texts)
-        (here : AllByRecursion (HoldsOf format (IsTold keys_of told place)) texts) where
+        (here : AllByRecursion (HoldsOf format (IsKeyed keys_of told place)) texts) where
       -- texts are put into sound cells
       put-sound :
           (cells : List Cell)
@@ -295,14 +296,14 @@ module _ {R : Type 0} (format : Format R) (keys_of : R → List ℕ) where
       -- of which the index tells
       put-told :
           (cells : List Cell)
-          → HoldsThere format (IsTold keys_of told) cells
-          → HoldsThere format (IsTold keys_of told) (texts_put place texts cells)
+          → HoldsThere format (IsKeyed keys_of told) cells
+          → HoldsThere format (IsKeyed keys_of told) (texts_put place texts cells)
       put-told [] old = tt
       put-told (cell ∷ cells) old = (
         elim (cases_eq cell.place place) [
           | inl same ↦
               rw (eq-eqb cell.place place same)
-              (subst (λ place. AllByRecursion (HoldsOf format (IsTold keys_of told place)) texts)
+              (subst (λ place. AllByRecursion (HoldsOf format (IsKeyed keys_of told place)) texts)
               (sym same) here)
           | inr apart ↦ rw (ne_eqb cell.place place apart) old.0
         ],
@@ -343,8 +344,8 @@ module _ {R : Type 0} (format : Format R) (keys_of : R → List ℕ) where
     -- and told of
     ended-told :
         (cells : List Cell)
-        → HoldsThere format (IsTold keys_of told) cells
-        → HoldsThere format (IsTold keys_of told) (map ended_cell cells)
+        → HoldsThere format (IsKeyed keys_of told) cells
+        → HoldsThere format (IsKeyed keys_of told) (map ended_cell cells)
     ended-told [] old = tt
     ended-told (cell ∷ cells) old = (old.0, ended-told cells old.1)
 
@@ -352,7 +353,7 @@ module _ {R : Type 0} (format : Format R) (keys_of : R → List ℕ) where
     pub kept-added :
         (place : ℕ) (text : List ℕ) (cells : List Cell)
         → Lacks newline text
-        → HoldsOf format (IsTold keys_of told place) text
+        → HoldsOf format (IsKeyed keys_of told place) text
         → All (λ cell. cell.place < place) cells
         → AreKept format keys_of told cells
         → AreKept format keys_of told (text_added place text cells)
@@ -372,7 +373,7 @@ module _ {R : Type 0} (format : Format R) (keys_of : R → List ℕ) where
                 behind k d ahead,
                 ap (λ (cell : Cell). cell.place) (get_or-map ended_cell cells k d d ahead),
               ));
-          told_of = All-append (λ cell. HoldsIn format (IsTold keys_of told cell.place) cell)
+          told_of = All-append (λ cell. HoldsIn format (IsKeyed keys_of told cell.place) cell)
               (map ended_cell cells) (last ∷ []) (ended-told cells kept.told_of) ((here, tt), tt);
         }
 

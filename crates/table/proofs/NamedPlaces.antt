@@ -13,7 +13,7 @@ use Rattle.table.specs.Cells.{ArePlaced, cell_at, lines_now}
 use Rattle.table.specs.declared.cell.Cell.{Cell}
 use Rattle.table.specs.KeyPlaces.{has_key}
 use Rattle.table.specs.Keys.{HaveOwnKeys, own_key}
-use Rattle.table.specs.TableCells.{AreKept, HoldsIn, IsTold, has_named_at, has_named_in}
+use Rattle.table.specs.TableCells.{AreKept, HoldsIn, IsKeyed, has_named_at, has_named_in}
 use Rattle.table.proofs.PutRecords.{first-at, has-cells, reached-by, some-found}
 use Rattle.table.proofs.ReachLemmas.{there-weaker}
 
@@ -149,7 +149,7 @@ module _ {R : Type 0} (format : Format R) where
       (λ r. is_named format name r ≡ true → is_used places cell.place ≡ true) cell)
       (λ cell. has_named_in format name cell ≡ true → is_used places cell.place ≡ true)
       (λ cell here has. reached-by format (is_named format name) places cell.place cell.texts here has) cells
-      (there-weaker format (IsTold keys_of told)
+      (there-weaker format (IsKeyed keys_of told)
       (λ place r. is_named format name r ≡ true → is_used places place ≡ true)
       (λ place r tells named.
       subst (λ found. IfSome found (λ places. is_used places place ≡ true)) listed

@@ -9,16 +9,16 @@ use Rattle.account_model.specs.Text.{nonempty}
 use Rattle.acct_lines.proofs.NamesCut.{pushed-piece}
 use Rattle.acct_tables.specs.NameHashes.{name_hash}
 use Rattle.table.specs.Keys.{name_keys}
-use Rattle.table.specs.KeyPlaces.{Notes, has_key}
+use Rattle.table.specs.KeyPlaces.{NotesOf, has_key}
 use Rattle.table.specs.declared.key_places.Spot.{Spot}
 
 module _ (spot : Spot) (before between after : ℕ → Option (List ℕ)) where
   -- by some keys, and then by more
   pub notes-both :
       (keys more : List ℕ)
-      → Notes keys spot before between
-      → Notes more spot between after
-      → Notes (keys ++ more) spot before after
+      → NotesOf keys spot before between
+      → NotesOf more spot between after
+      → NotesOf (keys ++ more) spot before after
   notes-both keys more first behind = record {
     kept = λ key place may. behind.kept key place (first.kept key place may);
     noted = λ key place has in_spot. elim (or_cases (has_key key keys) (has_key key more)
@@ -32,13 +32,13 @@ module _ (spot : Spot) (before between after : ℕ → Option (List ℕ)) where
   pub notes-piece :
       (piece : List ℕ) (pieces rest : List (List ℕ))
       → pieces ≡ piece ∷ rest
-      → Notes (name_keys (nonempty (piece ∷ []))) spot before between
-      → Notes (name_keys (nonempty rest)) spot between after
-      → Notes (name_keys (nonempty pieces)) spot before after
+      → NotesOf (name_keys (nonempty (piece ∷ []))) spot before between
+      → NotesOf (name_keys (nonempty rest)) spot between after
+      → NotesOf (name_keys (nonempty pieces)) spot before after
   notes-piece piece pieces rest is first behind =
       let front = nonempty (piece ∷ []) in
-      subst (λ names. Notes (name_keys names) spot before after)
+      subst (λ names. NotesOf (name_keys names) spot before after)
       (pushed-piece [] front piece rest refl ∙ ap nonempty (sym is))
-      (subst (λ keys. Notes keys spot before after)
+      (subst (λ keys. NotesOf keys spot before after)
       (sym (map-append name_hash front (nonempty rest)))
       (notes-both (name_keys front) (name_keys (nonempty rest)) first behind))

@@ -10,7 +10,7 @@ use Rattle.std.proofs.lemmas.List.{length-append}
 use Rattle.acct_text.specs.Lines.{Line, lines_of}
 use Rattle.account_model.specs.Format.{Format, records_of}
 use Rattle.account_model.specs.Records.{group_format, passwd_format}
-use Rattle.acct_tables.specs.Marks.{Holds, IsFromMark, IsWithout}
+use Rattle.acct_tables.specs.Marks.{HoldsMark, IsFromMark, IsWithout}
 use Rattle.acct_tables.proofs.FieldMarks.{holds-gid, holds-primary, holds-uid}
 use Rattle.table.specs.Accepting.{IsNumberOf, is_accepted}
 use Rattle.table.proofs.RecordLemmas.{find-refused}
@@ -42,21 +42,21 @@ module _ {R : Type 0} (format : Format R) (test : R → Bool) (number : ℕ) whe
   by-read :
       (field : R → ℕ) (line : List ℕ) (found : Option R)
       → format.read line ≡ found
-      → ((r : R) → format.read line ≡ Some r → Holds (decimal (field r)) line)
+      → ((r : R) → format.read line ≡ Some r → HoldsMark (decimal (field r)) line)
       → ((r : R) → test r ≡ true → field r ≡ number)
       → IsWithout (decimal number) line
       → is_accepted test found ≡ false
   by-read field line None read holds tests without = refl
   by-read field line (Some r) read holds tests without = elim (cases_Bool (test r)) [
     | inl passes ↦ absurd (without
-        (subst (λ n. Holds (decimal n) line) (tests r passes) (holds r read)))
+        (subst (λ n. HoldsMark (decimal n) line) (tests r passes) (holds r read)))
     | inr fails ↦ fails
   ]
 
   -- a number in the line of each record that the test accepts is its number
   pub number-of :
       (field : R → ℕ)
-      → ((line : List ℕ) (r : R) → format.read line ≡ Some r → Holds (decimal (field r)) line)
+      → ((line : List ℕ) (r : R) → format.read line ≡ Some r → HoldsMark (decimal (field r)) line)
       → ((r : R) → test r ≡ true → field r ≡ number)
       → IsNumberOf format test number
   number-of field holds tests = λ line without.

@@ -4,7 +4,7 @@ use Rattle.std.proofs.Common.{◌≡◌, ◌∙◌, ℕ, List, [], ◌∷◌, re
 use Rattle.std.specs.Prelude.{Option, None, Some}
 use Rattle.account_model.specs.Format.{Format}
 use Rattle.account_model.specs.Naming.{NamesFirst, first_field}
-use Rattle.table.specs.KeyPlaces.{Notes}
+use Rattle.table.specs.KeyPlaces.{NotesOf}
 use Rattle.table.specs.Keys.{keys_in, own_key}
 use Rattle.table.specs.declared.key_places.Spot.{Spot}
 
@@ -15,18 +15,18 @@ module _ {R : Type 0} (format : Format R) (keys_of : R → List ℕ) (names_firs
   notes-by :
       (found : Option R)
       → format.read line ≡ found
-      → Notes (own_key (first_field line) ∷ []) spot before after
-      → Notes (keys_in keys_of found) spot before after
+      → NotesOf (own_key (first_field line) ∷ []) spot before after
+      → NotesOf (keys_in keys_of found) spot before after
   notes-by None is notes = record {
     kept = notes.kept;
     noted = λ key place has in_spot. absurd cc;
   }
   notes-by (Some r) is notes =
-      subst (λ keys. Notes keys spot before after)
+      subst (λ keys. NotesOf keys spot before after)
       (ap (λ name. own_key name ∷ []) (names_first line r is) ∙ sym (alone r)) notes
 
   -- what notes the first field notes the record
   pub notes-first :
-      Notes (own_key (first_field line) ∷ []) spot before after
-      → Notes (keys_in keys_of (format.read line)) spot before after
+      NotesOf (own_key (first_field line) ∷ []) spot before after
+      → NotesOf (keys_in keys_of (format.read line)) spot before after
   notes-first notes = notes-by (format.read line) refl notes

@@ -21,7 +21,7 @@ use Rattle.table.specs.declared.cell.Cell.{Cell}
 use Rattle.table.specs.KeyPlaces.{ArePlacesOf, has_key}
 use Rattle.table.specs.Keys.{HaveOwnKeys, own_key}
 use Rattle.table.specs.Changed.{changed_there}
-use Rattle.table.specs.TableCells.{AreKept, HoldsIn, HoldsOf, HoldsThere, IsSound, IsTold, Reaches, TouchesAt}
+use Rattle.table.specs.TableCells.{AreKept, HoldsIn, HoldsOf, HoldsThere, IsSound, IsKeyed, Reaches, TouchesAt}
 use Rattle.table.proofs.ChangedTexts.{all-changed}
 use Rattle.table.proofs.EditedCells.{both-facts}
 
@@ -105,7 +105,7 @@ module _ {R : Type 0} (format : Format R) where
         → ArePlacesOf told key places
         → Reaches format (λ r. has_key key (keys_of r)) cells places
     told-reaches told key cells places kept are = record {
-      all = there-weaker (IsTold keys_of told)
+      all = there-weaker (IsKeyed keys_of told)
           (λ place r. has_key key (keys_of r) ≡ true → is_used places place ≡ true)
           (λ place r tells has. are.all place (tells key has)) cells kept.told_of;
       ascending = are.ascending;

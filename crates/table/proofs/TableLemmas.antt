@@ -11,7 +11,7 @@ use Rattle.account_model.specs.Tables.{table_after, table_records}
 use Rattle.acct_tables.specs.SeenLines.{AreOfFile}
 use Rattle.table.specs.Cells.{lines_now}
 use Rattle.table.specs.declared.cell.Cell.{Cell}
-use Rattle.table.specs.Standing.{IsOfFile, file_in}
+use Rattle.table.specs.Standing.{IsOfFile, standing_file}
 use Rattle.table.specs.declared.table.Standing.{Standing}
 use Rattle.table.specs.declared.table.Standing.TheVariants.{Indexed}
 
@@ -28,10 +28,10 @@ module _ (kept : Standing (List Cell)) (cells : List Cell) (is : kept ≡ Indexe
   kept-of_file = subst IsOfFile is of_file
 
   module _ {R : Type 0} (format : Format R) (file : Option (List ℕ))
-      (makes : file_in kept ≡ file) where
+      (makes : standing_file kept ≡ file) where
     -- the file is what they make
     kept-file : Some (file_bytes (lines_now cells)) ≡ file
-    kept-file = ap file_in (sym is) ∙ makes
+    kept-file = ap standing_file (sym is) ∙ makes
 
     -- the records are those of the file
     pub kept-records : records_of format (lines_now cells) ≡ table_records format file

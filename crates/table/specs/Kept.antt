@@ -94,7 +94,7 @@ AreTold patches from places =
     (place : ℕ) → from ≤ place → is_used places place ≡ false → patches place ≡ None
 
 -- a text whose first line is at a place, cut where a line begins at another
-pub record IsCut (first place : ℕ) (text : List ℕ) (cut : Cut) : Type 0 where
+pub record IsCutAt (first place : ℕ) (text : List ℕ) (cut : Cut) : Type 0 where
   -- the lines in front
   pub front : List Line
   pub lines : lines_of text ≡ front ++ seen_line cut.line ∷ lines_of cut.behind.now

@@ -28,7 +28,7 @@ abbrev pub Widens : (before after : ℕ → Option (List ℕ)) → Type 0
 Widens before after = (key place : ℕ) → MayBeAt before key place → MayBeAt after key place
 
 -- what is told after is no less, and a record there may have these keys
-pub record Notes (keys : List ℕ) (spot : Spot) (before after : ℕ → Option (List ℕ)) : Type 0 where
+pub record NotesOf (keys : List ℕ) (spot : Spot) (before after : ℕ → Option (List ℕ)) : Type 0 where
   pub kept : Widens before after
   pub noted : (key place : ℕ) → has_key key keys ≡ true → IsIn spot place → MayBeAt after key place
 
@@ -94,18 +94,18 @@ abbrev pub told_places : List ℕ × List Link → ℕ → Option (List ℕ)
 told_places index key = told_in index.1 (slot_of index.0 key)
 
 -- a slot that holds this is open, or has one of the lists
-abbrev pub IsHeld : List Link → ℕ → Type 0
-IsHeld links held = (held == open_slot) ≡ false → held ≤ length links
+abbrev pub IsSlot : List Link → ℕ → Type 0
+IsSlot links held = (held == open_slot) ≡ false → held ≤ length links
 
 -- each slot is open, or has one of the lists
 abbrev pub AreHeld : List Link → List ℕ → Type 0
-AreHeld links slots = (key : ℕ) → IsHeld links (slot_of slots key)
+AreHeld links slots = (key : ℕ) → IsSlot links (slot_of slots key)
 
 -- the lists stay as more come, and what a slot holds then tells of the spot and of the old places
 pub record IsHeldWith (spot : Spot) (held : ℕ) (before after : List Link) (new : ℕ) : Type 0 where
   pub kept : (number : ℕ) → number ≤ length before
       → listed_places after number ≡ listed_places before number
   pub grown : length before ≤ length after
-  pub inside : IsHeld after new
+  pub inside : IsSlot after new
   pub others : (place : ℕ) → MayBeIn before held place → MayBeIn after new place
   pub here : (place : ℕ) → IsIn spot place → MayBeIn after new place

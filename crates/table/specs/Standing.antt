@@ -16,9 +16,9 @@ file_seen (Lent file) = file.now
 file_seen (Made file) = file
 
 -- the file as it is seen, or the one that the lines make
-abbrev pub file_in : Standing (List Cell) → Option (List ℕ)
-file_in (File file) = file_seen file
-file_in (Indexed cells) = Some (file_bytes (lines_now cells))
+abbrev pub standing_file : Standing (List Cell) → Option (List ℕ)
+standing_file (File file) = file_seen file
+standing_file (Indexed cells) = Some (file_bytes (lines_now cells))
 
 -- the lines, where such stand, are those of the file that they make
 abbrev pub IsOfFile : Standing (List Cell) → Type 0

@@ -28,9 +28,9 @@ abbrev pub HoldsThere : {R : Type 0} → Format R → (ℕ → R → Type 0) →
 HoldsThere format P cells = AllByRecursion (λ cell. HoldsIn format (P cell.place) cell) cells
 
 -- the index tells at the place of each key of the record
-abbrev pub IsTold :
+abbrev pub IsKeyed :
     {R : Type 0} → (R → List ℕ) → (ℕ → Option (List ℕ)) → ℕ → R → Type 0
-IsTold keys_of told place r =
+IsKeyed keys_of told place r =
     (key : ℕ) → has_key key (keys_of r) ≡ true → MayBeAt told key place
 
 -- ---- Places
@@ -46,7 +46,7 @@ pub record AreKept {R : Type 0} (format : Format R) (keys_of : R → List ℕ)
     (told : ℕ → Option (List ℕ)) (cells : List Cell) : Type 0 where
   pub sound : AllByRecursion IsSound cells
   pub placed : ArePlaced cells
-  pub told_of : HoldsThere format (IsTold keys_of told) cells
+  pub told_of : HoldsThere format (IsKeyed keys_of told) cells
 
 -- what stands in these places, one after another
 abbrev pub cells_there : List Cell → List ℕ → List Cell

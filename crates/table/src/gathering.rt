@@ -3,7 +3,7 @@
 ghost use Rattle.std.specs.Prelude.{◌≡◌, map, IfOk};
 ghost use Rattle.table.specs.Cells.{ArePlaced};
 ghost use Rattle.table.specs.KeyPlaces.{Widens, told_places};
-ghost use Rattle.table.specs.TableCells.{HoldsIn, HoldsThere, IsTold};
+ghost use Rattle.table.specs.TableCells.{HoldsIn, HoldsThere, IsKeyed};
 
 use crate::cell::Cell;
 use crate::file::LineFile;
@@ -18,7 +18,7 @@ pub(crate) fn gathered<R: KeyedRecord>(
     bytes: usize,
 ) -> Result<KeyPlaces, AllocError>
     ensures told { IfOk result (λ keys.
-        HoldsThere R.format (IsTold R.keys (told_places keys)) file.now) }
+        HoldsThere R.format (IsKeyed R.keys (told_places keys)) file.now) }
     ensures placed { IfOk result (λ keys. ArePlaced file.now) }
 {
     let mut keys = KeyPlaces::for_file(alloc, bytes)?;
@@ -33,7 +33,7 @@ pub(crate) fn gathered<R: KeyedRecord>(
 fn note_cell<R: KeyedRecord>(cell: Cell<'_>, keys: &mut KeyPlaces)
     ensures widens { Widens (told_places keys.old) (told_places keys.new) }
     ensures told { HoldsIn R.format
-        (IsTold R.keys (told_places keys.new) cell.entry.place) cell.entry }
+        (IsKeyed R.keys (told_places keys.new) cell.entry.place) cell.entry }
 {
     let Cell {
         place,

@@ -4,7 +4,7 @@ ghost use Rattle.std.specs.Prelude.{◌≡◌, ◌∷◌, []};
 ghost use Rattle.account_model.specs.Naming.{first_field as first_of};
 ghost use Rattle.account_model.specs.Records.{read_names};
 ghost use Rattle.account_model.specs.Text.{nonempty};
-ghost use Rattle.table.specs.KeyPlaces.{Notes, told_places};
+ghost use Rattle.table.specs.KeyPlaces.{NotesOf, told_places};
 ghost use Rattle.table.specs.Keys.{name_keys, own_given, own_key};
 
 use crate::key_places::{KeyPlaces, Spot};
@@ -14,7 +14,7 @@ use acct_text::{Bytes, Names, cut_once};
 
 /// Notes that a record there has these names.
 pub(crate) fn note_names(names: &Names, spot: Spot, index: &mut KeyPlaces)
-    ensures { Notes (name_keys names.now) spot
+    ensures { NotesOf (name_keys names.now) spot
         (told_places index.old) (told_places index.new) }
 {
     'names: for name in names.as_slice() {
@@ -24,7 +24,7 @@ pub(crate) fn note_names(names: &Names, spot: Spot, index: &mut KeyPlaces)
 
 /// Notes that a record there has the names between the commas of the text.
 pub(crate) fn note_listed(text: &[u8], spot: Spot, index: &mut KeyPlaces)
-    ensures { Notes (name_keys (read_names text.now)) spot
+    ensures { NotesOf (name_keys (read_names text.now)) spot
         (told_places index.old) (told_places index.new) }
 {
     let mut rest = text;
@@ -37,7 +37,7 @@ pub(crate) fn note_listed(text: &[u8], spot: Spot, index: &mut KeyPlaces)
 
 // Notes that a record there has the piece of a list, where that is a name.
 fn note_piece(piece: &[u8], spot: Spot, index: &mut KeyPlaces)
-    ensures { Notes (name_keys (nonempty (piece.now ∷ []))) spot
+    ensures { NotesOf (name_keys (nonempty (piece.now ∷ []))) spot
         (told_places index.old) (told_places index.new) }
 {
     if piece.is_empty() {
@@ -48,7 +48,7 @@ fn note_piece(piece: &[u8], spot: Spot, index: &mut KeyPlaces)
 
 /// Notes that a record there has the name.
 pub(crate) fn note_name(name: &[u8], spot: Spot, index: &mut KeyPlaces)
-    ensures { Notes (name_keys (name.now ∷ [])) spot
+    ensures { NotesOf (name_keys (name.now ∷ [])) spot
         (told_places index.old) (told_places index.new) }
 {
     index.note(name_hash(name), spot);
@@ -63,14 +63,14 @@ pub fn own_key(name: &[u8]) -> u64
 
 /// Notes that a record there has the name for its own.
 pub(crate) fn note_own(name: &[u8], spot: Spot, index: &mut KeyPlaces)
-    ensures { Notes (own_key name.now ∷ []) spot (told_places index.old) (told_places index.new) }
+    ensures { NotesOf (own_key name.now ∷ []) spot (told_places index.old) (told_places index.new) }
 {
     index.note(own_key(name), spot);
 }
 
 /// Notes the name that records there are given for their own, if one is.
 pub(crate) fn note_given(name: &Option<Bytes>, spot: Spot, index: &mut KeyPlaces)
-    ensures { Notes (own_given name.now) spot (told_places index.old) (told_places index.new) }
+    ensures { NotesOf (own_given name.now) spot (told_places index.old) (told_places index.new) }
 {
     if let Some(name) = name {
         note_own(name.as_slice(), spot, index);
@@ -79,7 +79,7 @@ pub(crate) fn note_given(name: &Option<Bytes>, spot: Spot, index: &mut KeyPlaces
 
 /// Notes that the record which a line is, if it is one, has its own name, which is the first field.
 pub(crate) fn note_first(line: &[u8], spot: Spot, index: &mut KeyPlaces)
-    ensures { Notes (own_key (first_of line.now) ∷ []) spot
+    ensures { NotesOf (own_key (first_of line.now) ∷ []) spot
         (told_places index.old) (told_places index.new) }
 {
     note_own(first_field(line), spot, index);

@@ -1,7 +1,7 @@
 // The places where records may have a key, told without a pass over the lines (passwd(5), shadow(5),
 // group(5), gshadow(5), subuid(5), subgid(5)).
 ghost use Rattle.std.specs.Prelude.{◌==◌, ◌≡◌, ℕ, ◌%◌, ◌<◌, ◌≤◌, ◌∷◌, [], false, length, option_map, IfOk, IfSome};
-ghost use Rattle.table.specs.KeyPlaces.{ArePlacesOf, IsHeldWith, IsOfNone, IsUntold, Notes, listed_places, open_slot, told_places};
+ghost use Rattle.table.specs.KeyPlaces.{ArePlacesOf, IsHeldWith, IsOfNone, IsUntold, NotesOf, listed_places, open_slot, told_places};
 
 use crate::place_lists::{ListedPlaces, PlaceLists};
 use std::alloc::{AllocError, Global};
@@ -73,7 +73,7 @@ impl KeyPlaces {
     /// Notes that a record there has the key. It never fails: without memory, past 3,000,000 notes and
     /// at a place from 4,294,967,295 on, any place may have the key from then on.
     pub fn note(&mut self, key: u64, spot: Spot)
-        ensures { Notes (key ∷ []) spot (told_places self.old) (told_places self.new) }
+        ensures { NotesOf (key ∷ []) spot (told_places self.old) (told_places self.new) }
     {
         let slot = slot_of(&self.slots, key);
         let held = self.slots[slot];

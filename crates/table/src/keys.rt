@@ -1,7 +1,7 @@
 // The keys of records, and what changes do to them. Each record has the key of its own name; a user has
 // the primary group for a key too (passwd(5), shadow(5), subuid(5), subgid(5)).
 ghost use Rattle.std.specs.Prelude.{◌≡◌, ℕ, List, IfSome};
-ghost use Rattle.table.specs.KeyPlaces.{Notes, told_places};
+ghost use Rattle.table.specs.KeyPlaces.{NotesOf, told_places};
 ghost use Rattle.table.specs.Keys.{BringsOnly, HaveOwnKeys, Needs, keys_in, user_given};
 ghost use Rattle.table.specs.declared.key_places.Spot.TheVariants.{At};
 
@@ -20,12 +20,12 @@ pub trait KeyedRecord: EditedRecord {
 
     /// Notes the keys of the record that the line at a place is; other text has none. It may note more.
     fn note_line(line: &[u8], place: usize, index: &mut KeyPlaces)
-        ensures { Notes (keys_in keys (Self.format.read line.now)) (At place)
+        ensures { NotesOf (keys_in keys (Self.format.read line.now)) (At place)
             (told_places index.old) (told_places index.new) };
 
     /// Notes its keys there.
     fn note(&self, spot: Spot, index: &mut KeyPlaces)
-        ensures { Notes (keys self.now) spot (told_places index.old) (told_places index.new) };
+        ensures { NotesOf (keys self.now) spot (told_places index.old) (told_places index.new) };
 
     /// A key without which a record is surely left by the change; none where no such key is known.
     fn needed(change: &Self::Change) -> Option<u64>
@@ -34,7 +34,7 @@ pub trait KeyedRecord: EditedRecord {
     /// Notes the keys there that the change may bring to a record. The records that it makes of one have
     /// only these keys, and keys of that one.
     fn bring(change: &Self::Change, spot: Spot, index: &mut KeyPlaces)
-        ensures notes { Notes (brought change.now) spot
+        ensures notes { NotesOf (brought change.now) spot
             (told_places index.old) (told_places index.new) }
         ensures brings { BringsOnly keys (Self.becomes change.now) (brought change.now) };
 
@@ -85,7 +85,7 @@ impl KeyedRecord for PasswdRecord {
 
 // Notes the name and the GID there that the act gives.
 fn bring_to_user(act: &PasswdAct, spot: Spot, index: &mut KeyPlaces)
-    ensures { Notes (user_given act.now) spot (told_places index.old) (told_places index.new) }
+    ensures { NotesOf (user_given act.now) spot (told_places index.old) (told_places index.new) }
 {
     match act {
         PasswdAct::SetGid(gid) => index.note(u64::from(*gid), spot),

@@ -2,7 +2,7 @@
 // do to them (group(5), gshadow(5)).
 ghost use Rattle.std.specs.Prelude.{◌≡◌, ℕ, List, true, false, IfSome};
 ghost use Rattle.line_edits.specs.Memberships.{joins};
-ghost use Rattle.table.specs.KeyPlaces.{Notes, told_places};
+ghost use Rattle.table.specs.KeyPlaces.{NotesOf, told_places};
 ghost use Rattle.table.specs.Keys.{IsGroupLeaver, IsGshadowLeaver, IsLeaver, either_name, group_given, gshadow_given, name_keys};
 
 use crate::key_names::{note_listed, note_name, note_names, note_own, own_key};
@@ -66,7 +66,7 @@ fn leaver_of_group(act: &GroupAct) -> Option<u64>
 
 // Notes the name and the members there that the act may bring to a group.
 fn bring_to_group(act: &GroupAct, spot: Spot, index: &mut KeyPlaces)
-    ensures { Notes (group_given act.now) spot (told_places index.old) (told_places index.new) }
+    ensures { NotesOf (group_given act.now) spot (told_places index.old) (told_places index.new) }
 {
     match act {
         GroupAct::Rename(name) => note_own(name.as_slice(), spot, index),
@@ -133,7 +133,7 @@ fn leaver_of_gshadow(act: &GshadowAct) -> Option<u64>
 
 // Notes the name, the administrators and the members there that the act may bring to a record of gshadow.
 fn bring_to_gshadow(act: &GshadowAct, spot: Spot, index: &mut KeyPlaces)
-    ensures { Notes (gshadow_given act.now) spot
+    ensures { NotesOf (gshadow_given act.now) spot
         (told_places index.old) (told_places index.new) }
 {
     match act {
@@ -149,7 +149,7 @@ fn bring_to_gshadow(act: &GshadowAct, spot: Spot, index: &mut KeyPlaces)
 
 // Notes the user there, by either name.
 fn note_user(membership: &Membership, spot: Spot, index: &mut KeyPlaces)
-    ensures { Notes (name_keys (either_name membership.now)) spot
+    ensures { NotesOf (name_keys (either_name membership.now)) spot
         (told_places index.old) (told_places index.new) }
 {
     note_name(membership.user.as_slice(), spot, index);

@@ -3,7 +3,7 @@
 ghost use Rattle.std.specs.Prelude.{◌≡◌, None, filter, find, is_some, nat_le, IfOk, OnOk};
 ghost use Rattle.account_model.specs.Format.{count_named, find_named, has_named, is_named};
 ghost use Rattle.account_model.specs.Tables.{table_records};
-ghost use Rattle.table.specs.Standing.{IsOfFile, IsTaken, file_in, file_seen};
+ghost use Rattle.table.specs.Standing.{IsOfFile, IsTaken, standing_file, file_seen};
 ghost use Rattle.table.specs.TableEdits.{AreWritten, multiple_by, table_by};
 
 use crate::edited::edited;
@@ -44,11 +44,11 @@ impl<'a, R: KeyedRecord + Drop> Drop for Table<'a, R> {
 
 impl<'a, R: KeyedRecord> Model for Table<'a, R> {
     ghost use Rattle.std.specs.Prelude.{ℕ, List, Option};
-    ghost use Rattle.table.specs.Standing.{IsOfFile, file_in};
+    ghost use Rattle.table.specs.Standing.{IsOfFile, standing_file};
 
     ghost Value = { Option (List ℕ) };
 
-    ghost view = { λ table. file_in table.standing };
+    ghost view = { λ table. standing_file table.standing };
 
     ghost invariant = { λ table. IsOfFile table.standing };
 }
@@ -124,7 +124,7 @@ impl<'a, R: KeyedRecord + Drop> Table<'a, R> {
 
     // Takes out what stands; the table is absent then.
     fn take_standing(&mut self) -> Standing<'a, KeyedCells<'a, R>>
-        ensures taken { file_in result ≡ self.old }
+        ensures taken { standing_file result ≡ self.old }
         ensures of_file { IsOfFile result }
         ensures left { self.new ≡ None }
     {
@@ -244,7 +244,7 @@ fn indexed<'a, R: KeyedRecord + Drop>(
     standing: Standing<'a, KeyedCells<'a, R>>,
 ) -> Result<Standing<'a, KeyedCells<'a, R>>, AllocError>
     requires { IsOfFile standing }
-    ensures same { IfOk result (λ indexed. file_in indexed ≡ file_in standing.entry) }
+    ensures same { IfOk result (λ indexed. standing_file indexed ≡ standing_file standing.entry) }
     ensures of_file { IfOk result IsOfFile }
 {
     match standing {
@@ -265,7 +265,8 @@ fn edited_standing<'a, R: KeyedRecord + Drop>(
     requires of_file { IsOfFile standing }
     requires written { AreWritten R.format R.becomes edits.now }
     ensures edited { IfOk result (λ edited.
-        file_in edited ≡ table_by R.format R.becomes edits.now (file_in standing.entry)) }
+        standing_file edited
+        ≡ table_by R.format R.becomes edits.now (standing_file standing.entry)) }
     ensures of_file { IfOk result IsOfFile }
 {
     match standing {

@@ -5,7 +5,7 @@ ghost use Rattle.std.specs.HashMap.{keys};
 ghost use Rattle.std.specs.Vec.{vec_items};
 ghost use Rattle.acct_text.specs.Lines.{file_bytes};
 ghost use Rattle.table.specs.Cells.{lines_now};
-ghost use Rattle.table.specs.Kept.{AreTold, IsCut, cells_kept, patches_of};
+ghost use Rattle.table.specs.Kept.{AreTold, IsCutAt, cells_kept, patches_of};
 
 use crate::cell_bytes::push_lines;
 use crate::cells::Cells;
@@ -104,7 +104,7 @@ pub(crate) struct Cut<'a> {
 
 // A text that begins at a place, cut at another; none where no line of it begins there.
 fn cut_at(text: &[u8], first: usize, place: usize) -> Option<Cut<'_>>
-    ensures { IfSome result (IsCut first place text.now) }
+    ensures { IfSome result (IsCutAt first place text.now) }
 {
     if place < first || place - first >= text.len() || !begins_line(text, place - first) {
         return None;

@@ -1,7 +1,7 @@
 // The groups that words name (useradd(8), usermod(8), `-g` and `-G`).
 ghost use Rattle.std.specs.Prelude.{◌≡◌, ◌++◌, [], is_some, map, option_map, IfOk, OnOk};
 ghost use Rattle.std.specs.List.{cons_option};
-ghost use Rattle.account_model.specs.GivenGroups.{find_group as named_by_word, given_group, given_groups, group_words as words_of_groups};
+ghost use Rattle.account_model.specs.GivenGroups.{find_group as named_by_word, given_group, given_groups, given_group_words as words_of_groups};
 ghost use Rattle.account_model.specs.Tables.{group_records};
 ghost use Rattle.account_model.specs.Users.{group_named as group_of_name};
 

@@ -9,13 +9,13 @@ use Rattle.acct_text.proofs.Cut.{cut_at-is}
 use Rattle.account_model.specs.Chfn.{parts_among}
 use Rattle.account_model.specs.Faults.{field_at}
 use Rattle.account_model.specs.Text.{comma}
-use Rattle.user_changes.specs.Comments.{pieces_of}
+use Rattle.user_changes.specs.Comments.{comment_pieces}
 
 -- what is left is its pieces, joined
 pub left-joined :
     (left : Option (Bor (List ℕ))) (nothing : Bor (List ℕ))
     → nothing.now ≡ []
-    → (unwrap_or left nothing).now ≡ join_with_byte comma (pieces_of (option_copied left))
+    → (unwrap_or left nothing).now ≡ join_with_byte comma (comment_pieces (option_copied left))
 left-joined None nothing empty = empty
 left-joined (Some text) nothing empty = sym (cut_at-is comma text.now).joined
 

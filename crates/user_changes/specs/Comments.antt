@@ -16,6 +16,6 @@ seen_parts parts = record {
 }
 
 -- the pieces of what is left of a comment, and none where nothing is
-abbrev pub pieces_of : Option (List ℕ) → List (List ℕ)
-pieces_of None = []
-pieces_of (Some text) = cut_at comma text
+abbrev pub comment_pieces : Option (List ℕ) → List (List ℕ)
+comment_pieces None = []
+comment_pieces (Some text) = cut_at comma text

@@ -42,16 +42,16 @@ owner_by request old_uid = record {
 }
 
 -- whose the ranges are
-abbrev pub owner_of : UserRanges → RangeOwner
-owner_of ranges = record {
+abbrev pub owner_in : UserRanges → RangeOwner
+owner_in ranges = record {
   old_name = ranges.old_name;
   new_name = ranges.new_name;
   uid = ranges.uid;
 }
 
 -- which IDs go and come
-abbrev pub change_of : UserRanges → RangeChange
-change_of ranges = record {
+abbrev pub id_change : UserRanges → RangeChange
+id_change ranges = record {
   removed = map ids_named ranges.removed.items;
   added = map ids_named ranges.added.items;
 }

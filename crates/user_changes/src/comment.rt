@@ -3,7 +3,7 @@ ghost use Rattle.std.specs.Prelude.{◌≡◌, drop, IfOk};
 ghost use Rattle.std.specs.Option.{option_copied};
 ghost use Rattle.account_model.specs.Chfn.{comment_with, given_parts, parts_of};
 ghost use Rattle.account_model.specs.Faults.{field_at};
-ghost use Rattle.user_changes.specs.Comments.{pieces_of, seen_parts};
+ghost use Rattle.user_changes.specs.Comments.{comment_pieces, seen_parts};
 
 use acct_text::{Bytes, Names, cut_once, join};
 use command_values::Asked;
@@ -64,9 +64,9 @@ fn parts_of(comment: &[u8]) -> Parts<'_>
 
 // The first piece of what is left of a comment; where nothing is left it is empty.
 fn first_piece(left: Option<&[u8]>) -> Piece<'_>
-    ensures first { result.text.now ≡ field_at 1 (pieces_of (option_copied left.entry)) }
-    ensures others { pieces_of (option_copied result.behind)
-        ≡ drop 1 (pieces_of (option_copied left.entry)) }
+    ensures first { result.text.now ≡ field_at 1 (comment_pieces (option_copied left.entry)) }
+    ensures others { comment_pieces (option_copied result.behind)
+        ≡ drop 1 (comment_pieces (option_copied left.entry)) }
 {
     let Some(comment) = left else {
         return Piece {

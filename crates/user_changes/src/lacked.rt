@@ -11,7 +11,7 @@ ghost use Rattle.account_model.specs.UsermodRanges.{change_in, edits_before_addi
 ghost use Rattle.account_model.specs.Users.{uid_of};
 ghost use Rattle.account_model.specs.Written.{IsNameField};
 ghost use Rattle.command_values.specs.Ranges.{ids_named};
-ghost use Rattle.user_changes.specs.Ranges.{change_of, owner_of, range_change, range_table};
+ghost use Rattle.user_changes.specs.Ranges.{id_change, owner_in, range_change, range_table};
 
 use crate::ranges::{UserRanges, asked_ranges};
 use account_model::IdSort;
@@ -33,9 +33,9 @@ pub(crate) fn user_ranges(
 ) -> Result<UserRanges, AllocError>
     requires named { IsNameField (new_name asked.now) }
     requires uid { Some old_uid ≡ uid_of (operand asked.now) tables.now }
-    ensures owner { IfOk result (λ ranges. owner_of ranges ≡ range_owner asked.now tables.now) }
+    ensures owner { IfOk result (λ ranges. owner_in ranges ≡ range_owner asked.now tables.now) }
     ensures change { IfOk result (λ ranges.
-        change_of ranges ≡ range_change sort asked.now tables.now) }
+        id_change ranges ≡ range_change sort asked.now tables.now) }
 {
     let mut ranges = asked_ranges(alloc, asked, old_uid, sort)?;
     leave_held(alloc, &mut ranges, tables, sort)?;
@@ -70,11 +70,11 @@ fn leave_held(
     tables: &Tables,
     sort: IdSort,
 ) -> Result<(), AllocError>
-    requires { IsNameField (owner_of ranges.old).new_name }
-    ensures owner { OnOk result (owner_of ranges.new ≡ owner_of ranges.old) }
-    ensures change { OnOk result (change_of ranges.new
-        ≡ change_in (table_of tables.now (range_table sort)) (owner_of ranges.old)
-        (change_of ranges.old)) }
+    requires { IsNameField (owner_in ranges.old).new_name }
+    ensures owner { OnOk result (owner_in ranges.new ≡ owner_in ranges.old) }
+    ensures change { OnOk result (id_change ranges.new
+        ≡ change_in (table_of tables.now (range_table sort)) (owner_in ranges.old)
+        (id_change ranges.old)) }
 {
     if ranges.added.is_empty() {
         return Ok(());
@@ -101,10 +101,10 @@ fn lacked_ranges(
     ranges: &UserRanges,
     text: &[u8],
 ) -> Result<Vec<IdRange>, AllocError>
-    requires { IsNameField (owner_of ranges.now).new_name }
+    requires { IsNameField (owner_in ranges.now).new_name }
     ensures { IfOk result (λ lacked. map ids_named lacked.items
-        ≡ new_ranges (owner_of ranges.now) (change_of ranges.now).added (edited_by subid_format
-        (edits_before_adding (owner_of ranges.now) (change_of ranges.now)) (lines_of text.now))) }
+        ≡ new_ranges (owner_in ranges.now) (id_change ranges.now).added (edited_by subid_format
+        (edits_before_adding (owner_in ranges.now) (id_change ranges.now)) (lines_of text.now))) }
 {
     let owner = ranges.new_name.as_slice();
     let mut lines = lines_before(alloc, ranges, text)?;
@@ -125,9 +125,9 @@ pub(crate) fn lines_before(
     ranges: &UserRanges,
     text: &[u8],
 ) -> Result<Ranges, AllocError>
-    requires { IsNameField (owner_of ranges.now).new_name }
+    requires { IsNameField (owner_in ranges.now).new_name }
     ensures { IfOk result (λ lines. lines ≡ edited_by subid_format
-        (edits_before_adding (owner_of ranges.now) (change_of ranges.now)) (lines_of text.now)) }
+        (edits_before_adding (owner_in ranges.now) (id_change ranges.now)) (lines_of text.now)) }
 {
     let mut edits = Vec::new(alloc);
     ranges.push_removals(alloc, &mut edits)?;

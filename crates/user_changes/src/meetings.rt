@@ -13,7 +13,7 @@ ghost use Rattle.account_model.specs.Request.{operand};
 ghost use Rattle.account_model.specs.Written.{IsNameField};
 ghost use Rattle.subid_ranges.specs.RangeLines.{meeting_line, with_range};
 ghost use Rattle.table_edits.specs.Stopping.{StopsBy};
-ghost use Rattle.user_changes.specs.Ranges.{change_of, first_meeting_in, owner_of, range_change, range_table};
+ghost use Rattle.user_changes.specs.Ranges.{id_change, first_meeting_in, owner_in, range_change, range_table};
 
 use crate::lacked::{lines_before, range_file, range_table, user_ranges};
 use crate::ranges::UserRanges;
@@ -50,8 +50,8 @@ fn check_added(
     tables: &Tables,
     sort: IdSort,
 ) -> Result<(), ToolFault>
-    requires { IsNameField (owner_of ranges.now).new_name }
-    ensures { StopsBy (meeting_in (range_table sort) (owner_of ranges.now) (change_of ranges.now)
+    requires { IsNameField (owner_in ranges.now).new_name }
+    ensures { StopsBy (meeting_in (range_table sort) (owner_in ranges.now) (id_change ranges.now)
         (table_of tables.now (range_table sort))) result }
 {
     if ranges.added.is_empty() {
@@ -66,8 +66,8 @@ fn check_added(
 // Refuses the first new range that meets a line of the text, as it stands after the renaming, the
 // removals and the ranges added before: `Meets`.
 fn check_lines(alloc: Global, ranges: &UserRanges, tab: Tab, text: &[u8]) -> Result<(), ToolFault>
-    requires { IsNameField (owner_of ranges.now).new_name }
-    ensures { StopsBy (first_meeting_in tab (owner_of ranges.now) (change_of ranges.now)
+    requires { IsNameField (owner_in ranges.now).new_name }
+    ensures { StopsBy (first_meeting_in tab (owner_in ranges.now) (id_change ranges.now)
         (lines_of text.now)) result }
 {
     let mut lines = lines_before(alloc, ranges, text)?;

@@ -12,7 +12,7 @@ ghost use Rattle.command_values.specs.Ranges.{ids_named};
 ghost use Rattle.table_edits.specs.Additions.{HasAlso};
 ghost use Rattle.line_edits.specs.SeenEdits.{seen_edits};
 ghost use Rattle.line_edits.specs.SubidChanges.{subid_becomes};
-ghost use Rattle.user_changes.specs.Ranges.{change_of, owner_by, owner_of, ranges_asked};
+ghost use Rattle.user_changes.specs.Ranges.{id_change, owner_by, owner_in, ranges_asked};
 
 use crate::changes::new_name;
 use crate::lacked::user_ranges;
@@ -72,8 +72,8 @@ pub(crate) fn asked_ranges(
     old_uid: u32,
     sort: IdSort,
 ) -> Result<UserRanges, AllocError>
-    ensures owner { IfOk result (λ ranges. owner_of ranges ≡ owner_by asked.now (Some old_uid)) }
-    ensures change { IfOk result (λ ranges. change_of ranges ≡ ranges_asked sort asked.now) }
+    ensures owner { IfOk result (λ ranges. owner_in ranges ≡ owner_by asked.now (Some old_uid)) }
+    ensures change { IfOk result (λ ranges. id_change ranges ≡ ranges_asked sort asked.now) }
 {
     match sort {
         IdSort::Uid => UserRanges::of(alloc, asked, old_uid, b'V', b'v'),
@@ -90,9 +90,10 @@ impl UserRanges {
         removing: u8,
         adding: u8,
     ) -> Result<UserRanges, AllocError>
-        ensures owner { IfOk result (λ ranges. owner_of ranges ≡ owner_by asked.now (Some old_uid)) }
+        ensures owner { IfOk result
+            (λ ranges. owner_in ranges ≡ owner_by asked.now (Some old_uid)) }
         ensures change { IfOk result (λ ranges.
-            change_of ranges ≡ change_asked (removing ∷ []) (adding ∷ []) asked.now) }
+            id_change ranges ≡ change_asked (removing ∷ []) (adding ∷ []) asked.now) }
     {
         Ok(UserRanges {
             old_name: Bytes::of(alloc, asked.operand())?,
@@ -111,7 +112,7 @@ impl UserRanges {
     ) -> Result<(), AllocError>
         ensures { OnOk result (seen_edits subid_becomes edits.new.items
             ≡ seen_edits subid_becomes edits.old.items
-            ++ range_edits (owner_of self.now) (change_of self.now)) }
+            ++ range_edits (owner_in self.now) (id_change self.now)) }
     {
         self.push_removals(alloc, edits)?;
         self.push_additions(edits)
@@ -125,7 +126,7 @@ impl UserRanges {
     ) -> Result<(), AllocError>
         ensures { OnOk result (seen_edits subid_becomes edits.new.items
             ≡ seen_edits subid_becomes edits.old.items
-            ++ edits_before_adding (owner_of self.now) (change_of self.now)) }
+            ++ edits_before_adding (owner_in self.now) (id_change self.now)) }
     {
         self.push_renaming(edits)?;
         for ids in &self.removed {
@@ -140,7 +141,7 @@ impl UserRanges {
         edits: &mut Vec<Edit<SubidRecord, SubidChange>>,
     ) -> Result<(), AllocError>
         ensures { OnOk result (seen_edits subid_becomes edits.new.items
-            ≡ seen_edits subid_becomes edits.old.items ++ renaming (owner_of self.now)) }
+            ≡ seen_edits subid_becomes edits.old.items ++ renaming (owner_in self.now)) }
     {
         if self.old_name.as_slice() == self.new_name.as_slice() {
             return Ok(());
@@ -157,7 +158,7 @@ impl UserRanges {
     ) -> Result<(), AllocError>
         ensures { OnOk result (seen_edits subid_becomes edits.new.items
             ≡ seen_edits subid_becomes edits.old.items
-            ++ map (add_range (owner_of self.now)) (change_of self.now).added) }
+            ++ map (add_range (owner_in self.now)) (id_change self.now).added) }
     {
         for ids in &self.added {
             edits.push(Edit::Add(self.range(ids)?))?;
@@ -168,7 +169,7 @@ impl UserRanges {
     // The change by which the IDs go out of the user's ranges.
     fn cut(&self, ids: &IdRange) -> Result<SubidChange, AllocError>
         ensures { IfOk result (λ change.
-            Become (subid_becomes change) ≡ cut_range (owner_of self.now) (ids_named ids.now)) }
+            Become (subid_becomes change) ≡ cut_range (owner_in self.now) (ids_named ids.now)) }
     {
         Ok(SubidChange::Cut(RangeCut {
             owner: self.new_name.copy()?,
@@ -181,7 +182,7 @@ impl UserRanges {
     // The record of the IDs.
     fn range(&self, ids: &IdRange) -> Result<SubidRecord, AllocError>
         ensures { IfOk result (λ range.
-            Add range ≡ add_range (owner_of self.now) (ids_named ids.now)) }
+            Add range ≡ add_range (owner_in self.now) (ids_named ids.now)) }
     {
         Ok(SubidRecord {
             owner: self.new_name.copy()?,

@@ -28,7 +28,7 @@ use Rattle.table_edits.specs.SeenScript.{seen_script}
 use Rattle.table_edits.specs.Stopping.{StopsBy}
 use Rattle.table_edits.specs.declared.script.Script.{Script}
 use Rattle.user_creation.specs.Added.{added_uid}
-use Rattle.user_creation.specs.Plans.{HasPlanned}
+use Rattle.user_creation.specs.Plans.{ArePlannedIds}
 use Rattle.user_creation.specs.declared.plan.NewIds.{NewIds}
 
 -- ---- The primary GID
@@ -90,7 +90,7 @@ module _ (request : Request) (files : Files) (settings : List Setting) (day : �
     -- the edits where there are both IDs
     script-of_ids :
         (ids : NewIds) (shadow : ShadowRecord)
-        → HasPlanned plan ids
+        → ArePlannedIds plan ids
         → add_user request files plan shadow ids.uid ids.gid
         ≡ (useradd_by plan shadow request files).script
     script-of_ids ids shadow has =
@@ -101,7 +101,7 @@ module _ (request : Request) (files : Files) (settings : List Setting) (day : �
     pub made-user :
         (ids : NewIds) (shadow : ShadowRecord) (script : Script)
         → first_some (useradd_conflicts request files plan) ≡ None
-        → HasPlanned plan ids
+        → ArePlannedIds plan ids
         → shadow ≡ new_shadow request settings day
         → seen_script script ≡ add_user request files plan shadow ids.uid ids.gid
         → IsScriptOf (useradd_under settings request files day) script

@@ -10,12 +10,12 @@ use Rattle.login_defs.specs.Held.{HasSettings}
 use Rattle.user_creation.specs.declared.plan.NewIds.{NewIds}
 
 -- the primary GID of a user of the UID that is given or chosen
-abbrev pub GivesGid : Defs → Request → Files → Option ℕ → Option ℕ → Type 0
-GivesGid defs request files uid gid = (settings : List Setting) → HasSettings defs settings
+abbrev pub GivesPrimaryGid : Defs → Request → Files → Option ℕ → Option ℕ → Type 0
+GivesPrimaryGid defs request files uid gid = (settings : List Setting) → HasSettings defs settings
     → uid ≡ new_uid request files settings
     → gid ≡ primary_gid request files settings
 
 -- these IDs are those of the plan
-pub record HasPlanned (plan : Plan) (ids : NewIds) : Type 0 where
+pub record ArePlannedIds (plan : Plan) (ids : NewIds) : Type 0 where
   pub uid : plan.uid ≡ Some ids.uid
   pub gid : plan.gid ≡ Some ids.gid

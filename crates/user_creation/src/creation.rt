@@ -13,7 +13,7 @@ ghost use Rattle.command_values.specs.Chosen.{AddsSettings};
 ghost use Rattle.login_defs.specs.Held.{HasSettings, IsHeld};
 ghost use Rattle.table_edits.specs.Acting.{ActsBy};
 ghost use Rattle.table_edits.specs.Stopping.{StopsBy};
-ghost use Rattle.user_creation.specs.Plans.{HasPlanned};
+ghost use Rattle.user_creation.specs.Plans.{ArePlannedIds};
 
 use crate::plan::{NewIds, plan_of};
 use crate::records::new_shadow;
@@ -74,7 +74,7 @@ fn check_conflicts(
     plan: Plan,
 ) -> Result<NewIds, ToolFault>
     ensures refused { StopsBy (first_some (useradd_conflicts asked.now tables.now plan)) result }
-    ensures ids { IfOk result (HasPlanned plan) }
+    ensures ids { IfOk result (ArePlannedIds plan) }
 {
     check_login(alloc, asked, tables)?;
     check_given_group(alloc, asked, tables)?;
@@ -132,7 +132,7 @@ fn check_given_uid(alloc: Global, asked: &Asked, tables: &Tables) -> Result<(), 
 // Refuses where no ID or no range is left, and gives the IDs of the plan.
 fn planned_ids(plan: Plan) -> Result<NewIds, ToolFault>
     ensures refused { RefusesBy (first_some (used_up plan)) result }
-    ensures ids { IfOk result (HasPlanned plan) }
+    ensures ids { IfOk result (ArePlannedIds plan) }
 {
     let uid = plan.uid.ok_or(ToolFault::Refused(Refusal::NoFreeUid))?;
     let gid = plan.gid.ok_or(ToolFault::Refused(Refusal::NoFreeGid))?;

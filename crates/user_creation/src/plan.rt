@@ -3,8 +3,8 @@
 ghost use Rattle.std.specs.Prelude.{◌≡◌, IfOk, option_map, unwrap_or};
 ghost use Rattle.account_model.specs.GivenGroups.{given_group};
 ghost use Rattle.account_model.specs.Useradd.{default_gid, gid_beside, makes_group, new_uid, plan_of};
-ghost use Rattle.login_defs.specs.Held.{Gives, IsHeld};
-ghost use Rattle.user_creation.specs.Plans.{GivesGid};
+ghost use Rattle.login_defs.specs.Held.{GivesBySettings, IsHeld};
+ghost use Rattle.user_creation.specs.Plans.{GivesPrimaryGid};
 
 use crate::ranges::{allotment_of, gid_bounds, uid_bounds};
 use account_model::{IdSort, Plan};
@@ -31,7 +31,7 @@ pub(crate) fn plan_of(
     settings: &Defs,
 ) -> Result<Plan, AllocError>
     requires held { IsHeld settings.now }
-    ensures { IfOk result (Gives settings.now (plan_of asked.now tables.now)) }
+    ensures { IfOk result (GivesBySettings settings.now (plan_of asked.now tables.now)) }
 {
     let uid = new_uid(alloc, asked, tables, settings)?;
     Ok(Plan {
@@ -58,7 +58,7 @@ pub(crate) fn plan_of(
 // Whether a group of the user's own is made: with `-U`, or where the settings say so and neither
 // `-g` nor `-N` is given.
 fn makes_group(asked: &Asked, settings: &Defs) -> bool
-    ensures { Gives settings.now (makes_group asked.now) result }
+    ensures { GivesBySettings settings.now (makes_group asked.now) result }
 {
     asked.has(b'U') || (settings.flag() && !asked.has(b'g') && !asked.has(b'N'))
 }
@@ -70,7 +70,7 @@ fn new_uid(
     tables: &Tables,
     settings: &Defs,
 ) -> Result<Option<u32>, AllocError>
-    ensures { IfOk result (Gives settings.now (new_uid asked.now tables.now)) }
+    ensures { IfOk result (GivesBySettings settings.now (new_uid asked.now tables.now)) }
 {
     if let Some(uid) = asked.id(b'u') {
         return Ok(Some(uid));
@@ -88,7 +88,7 @@ fn primary_gid(
     settings: &Defs,
     uid: Option<u32>,
 ) -> Result<Option<u32>, AllocError>
-    ensures { IfOk result (GivesGid settings.now asked.now tables.now uid) }
+    ensures { IfOk result (GivesPrimaryGid settings.now asked.now tables.now uid) }
 {
     if !makes_group(asked, settings) {
         return Ok(Some(given_gid(alloc, asked, tables)?));
@@ -108,7 +108,7 @@ fn own_gid(
     settings: &Defs,
     uid: u32,
 ) -> Result<Option<u32>, AllocError>
-    ensures { IfOk result (Gives settings.now
+    ensures { IfOk result (GivesBySettings settings.now
         (λ under. gid_beside asked.now tables.now under uid)) }
 {
     if !tables.is_gid_used(alloc, uid)? {

@@ -3,7 +3,7 @@
 ghost use Rattle.std.specs.Prelude.{◌≡◌, ◌≤◌, IfOk};
 ghost use Rattle.account_model.specs.NewRanges.{allotment, id_number, may_have_ranges};
 ghost use Rattle.account_model.specs.Records.{greatest_id};
-ghost use Rattle.login_defs.specs.Held.{Gives, IsHeld};
+ghost use Rattle.login_defs.specs.Held.{GivesBySettings, IsHeld};
 ghost use Rattle.user_creation.specs.Allotments.{gid_bounds_under, is_open, subordinate_of, uid_bounds_under};
 
 use account_model::{Allotment, Key};
@@ -62,7 +62,7 @@ pub(crate) fn may_have_ranges(asked: &Asked) -> bool
 pub(crate) fn uid_bounds(settings: &Defs) -> Bounds
     requires held { IsHeld settings.now }
     ensures small { result.maximum ≤ greatest_id }
-    ensures given { Gives settings.now uid_bounds_under result }
+    ensures given { GivesBySettings settings.now uid_bounds_under result }
 {
     Bounds {
         minimum: id_number(settings, Key::SubUidMin),
@@ -75,7 +75,7 @@ pub(crate) fn uid_bounds(settings: &Defs) -> Bounds
 pub(crate) fn gid_bounds(settings: &Defs) -> Bounds
     requires held { IsHeld settings.now }
     ensures small { result.maximum ≤ greatest_id }
-    ensures given { Gives settings.now gid_bounds_under result }
+    ensures given { GivesBySettings settings.now gid_bounds_under result }
 {
     Bounds {
         minimum: id_number(settings, Key::SubGidMin),
@@ -86,7 +86,7 @@ pub(crate) fn gid_bounds(settings: &Defs) -> Bounds
 
 // The number of a key that is never -1.
 fn id_number(settings: &Defs, key: Key) -> u32
-    ensures { Gives settings.now (id_number key) result }
+    ensures { GivesBySettings settings.now (id_number key) result }
 {
     settings.value(key).unwrap_or(0)
 }

@@ -2,7 +2,7 @@
 ghost use Rattle.std.specs.Prelude.{◌≡◌, None, IfOk, codes};
 ghost use Rattle.account_model.specs.Useradd.{new_aging, new_home, new_shadow, new_user};
 ghost use Rattle.account_model.specs.Values.{days_value, expiration_value, field_value};
-ghost use Rattle.login_defs.specs.Held.{Gives};
+ghost use Rattle.login_defs.specs.Held.{GivesBySettings};
 
 use crate::plan::NewIds;
 use account_model::{Key, PasswdRecord, ShadowRecord};
@@ -57,7 +57,7 @@ pub(crate) fn new_shadow(
     settings: &Defs,
     day: u32,
 ) -> Result<ShadowRecord, AllocError>
-    ensures { IfOk result (Gives settings.now (λ under. new_shadow asked.now under day)) }
+    ensures { IfOk result (GivesBySettings settings.now (λ under. new_shadow asked.now under day)) }
 {
     Ok(ShadowRecord {
         name: Bytes::of(alloc, asked.operand())?,
@@ -74,7 +74,7 @@ pub(crate) fn new_shadow(
 
 // The aging by the settings; a system user has none.
 fn new_aging(asked: &Asked, settings: &Defs, key: Key) -> Option<u32>
-    ensures { Gives settings.now (λ under. new_aging asked.now under key) result }
+    ensures { GivesBySettings settings.now (λ under. new_aging asked.now under key) result }
 {
     if asked.has(b'r') {
         return None;

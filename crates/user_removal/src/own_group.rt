@@ -5,7 +5,7 @@ ghost use Rattle.std.specs.List.{list_any};
 ghost use Rattle.account_model.specs.Request.{operand};
 ghost use Rattle.account_model.specs.Userdel.{kept_text, own_group, reason_to_keep};
 ghost use Rattle.account_model.specs.Userdel.Kept.{has_members, is_primary_of};
-ghost use Rattle.login_defs.specs.Held.{Gives};
+ghost use Rattle.login_defs.specs.Held.{GivesBySettings};
 ghost use Rattle.table_edits.specs.Additions.{HasAlso};
 ghost use Rattle.user_removal.specs.KeptGroups.{has_others, notices_of_group, removal_of_group};
 
@@ -24,7 +24,7 @@ pub(crate) fn own_group(
     tables: &Tables,
     defs: &Defs,
 ) -> Result<Option<GroupRecord>, AllocError>
-    ensures { IfOk result (Gives defs.now (own_group asked.now tables.now)) }
+    ensures { IfOk result (GivesBySettings defs.now (own_group asked.now tables.now)) }
 {
     if !defs.flag() {
         return Ok(None);

@@ -3,7 +3,7 @@ use Rattle.std.proofs.Common.{◌≡◌, inl, List, get_or, Some, None, arith}
 use Rattle.std.specs.Prelude.{All}
 use Rattle.suite_session.specs.declared.session.Phase.{Phase}
 use Rattle.suite_session.specs.declared.session.Phase.TheVariants.{Waiting, Begun, Over, Unbegun}
-use Rattle.suite_session.specs.Belongs.{AreApart}
+use Rattle.suite_session.specs.Belongs.{AreTwo}
 use Rattle.suite_session.specs.Session.{IsWaiting}
 use Rattle.side_by_side.specs.Scenes.{TakePart, TakesPart, Telling}
 
@@ -15,7 +15,7 @@ waiting-takes told (Over runner answer) is = absurd is
 waiting-takes told (Unbegun tool answer) is = absurd is
 
 -- and has no token
-waiting-apart : (session other : Phase) → IsWaiting session → AreApart session other
+waiting-apart : (session other : Phase) → IsWaiting session → AreTwo session other
 waiting-apart (Waiting asked) other is = λ token own also.
     absurd (let none : None ≡ Some token = own in cc)
 waiting-apart (Begun runner state) other is = absurd is

@@ -2,7 +2,7 @@ use Rattle.std.proofs.Common.{◌≡◌, ◌∙◌, arith, ap, refl, Ok, FitsSig
 use Rattle.std.proofs.lemmas.Int.{to_z_pos, to_z-of_z}
 use Rattle.jiff.specs.Words.{epoch_day}
 use Rattle.jiff.proofs.SpanFacts.{signed_arith}
-use Rattle.acct_dates.specs.Days.{date_of}
+use Rattle.acct_dates.specs.Days.{calendar_date}
 use Rattle.acct_dates.proofs.WrittenDays.{late-day}
 use Rattle.acct_dates.proofs.read.day_of.Goals as goal
 
@@ -17,7 +17,7 @@ returns c =
     in let is : number ≡ epoch_day c.in-Ok.date =
     c.to_unix_epoch_day.ensures.value ∙ ap epoch_day c.to_plain.ensures
     in let late = late-day
-    (date_of written)
+    (calendar_date written)
     c.in-Ok.date
     _
     _

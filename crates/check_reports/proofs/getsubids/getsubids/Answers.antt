@@ -3,7 +3,7 @@ use Rattle.std.specs.Prelude.{vec_len}
 use Rattle.std.proofs.lemmas.Result.{IfOk-weaker}
 use Rattle.account_model.specs.declared.refusal.Refusal.TheVariants.{NoRanges}
 use Rattle.account_model.specs.Action.{reports}
-use Rattle.account_model.specs.Getsubids.{getsubids, range_lines_from, ranges_of}
+use Rattle.account_model.specs.Getsubids.{getsubids, range_lines_from, ranges_of_user}
 use Rattle.account_model.specs.Request.{operand}
 use Rattle.tool_answers.specs.Decisions.{refusal_output}
 use Rattle.tool_answers.specs.declared.decision.Decision.TheVariants.{Refuse}
@@ -49,12 +49,12 @@ returns c =
     none-listed _ c.in_ok-ranges.ranges.items (vec_len c.in_ok-ranges.ranges) pairs counted
     ∙ sym c.is_empty.ensures ∙ c.if-is_empty.false in
     let lines : c.in_ok-lines.lines
-    ≡ range_lines_from 0 (operand request) (ranges_of request files) =
+    ≡ range_lines_from 0 (operand request) (ranges_of_user request files) =
     c.in_ok-lines.ensures
     ∙ ap (λ ranges. range_lines_from 0 user (map (range_for user) ranges)) (c.as_slice.ensures.value
     ∙ pairs)
-    ∙ lines-of-ranges user 0 (ranges_of request files)
-    ∙ ap (λ (name : List ℕ). range_lines_from 0 name (ranges_of request files))
+    ∙ lines-of-ranges user 0 (ranges_of_user request files)
+    ∙ ap (λ (name : List ℕ). range_lines_from 0 name (ranges_of_user request files))
     c.operand-user.ensures in
     subst (λ (out : List ℕ). DecidesBy request.tool
     (reports (getsubids request files).refusals 0 out) files c.told.result) lines

@@ -3,7 +3,7 @@ use Rattle.std.specs.Prelude.{find, option_map}
 use Rattle.acct_text.specs.Lines.{lines_of}
 use Rattle.account_model.specs.Format.{records_of}
 use Rattle.acct_tables.specs.SeenLines.{seen_line}
-use Rattle.check_reports.specs.LineChanges.{is_met}
+use Rattle.check_reports.specs.LineChanges.{is_met_by}
 use Rattle.check_reports.proofs.ChangeLemmas.{differ-none, found-behind, found-here}
 use Rattle.check_reports.proofs.line_changes.first_met.Goals as goal
 
@@ -14,7 +14,7 @@ lines-preserved g c =
     let all = records_of format (lines_of c.args.text.now) in
     sym (found-behind format change all (seen_line c.in-Some.line) c.take.new.self
     (sym (c.in_default-met.ensures all c.requires)))
-    ∙ ap (λ lines. find (is_met format change all) (records_of format lines))
+    ∙ ap (λ lines. find (is_met_by format change all) (records_of format lines))
     (sym c.in-Some.ensures.taken)
     ∙ c.lines.invariant
 
@@ -37,7 +37,7 @@ returns-in-Some-met g c =
     ap Some c.in_ok-of.ensures
     ∙ found-here format change all (seen_line c.in-Some.line) c.take.new.self
     c.in-Some-met.name.now (c.in-Some-met.ensures all c.requires)
-    ∙ ap (λ lines. option_map format.name (find (is_met format change all)
+    ∙ ap (λ lines. option_map format.name (find (is_met_by format change all)
     (records_of format lines))) (sym c.in-Some.ensures.taken)
     ∙ ap (option_map format.name) c.lines.invariant
 
@@ -46,6 +46,6 @@ returns g c =
     let format = g.R.TableRecord.format in
     let change = g.C.LineChange.change c.args.change.now in
     let all = records_of format (lines_of c.args.text.now) in
-    ap (λ lines. option_map format.name (find (is_met format change all)
+    ap (λ lines. option_map format.name (find (is_met_by format change all)
     (records_of format lines))) (sym c.in_default.ensures.taken)
     ∙ ap (option_map format.name) c.lines.invariant

@@ -1,5 +1,5 @@
 use Rattle.std.proofs.Common.{◌∙◌}
-use Rattle.login_defs.specs.Held.{Adds}
+use Rattle.login_defs.specs.Held.{AddsSetting}
 use Rattle.command_values.proofs.SettingLemmas.{is_ok-told, setting-told, setting-set, no_setting}
 use Rattle.command_values.proofs.settings.set_word.Goals as goal
 
@@ -12,7 +12,7 @@ returns-in-Some-clause-told c =
 pub returns-in-Some-clause-set : goal.returns-in-Some-clause-set
 returns-in-Some-clause-set c =
     let cut = c.in-Some.cut in
-    setting-set c.with.result c.is_ok.result (Adds c.args.settings.now c.with.new.self)
+    setting-set c.with.result c.is_ok.result (AddsSetting c.args.settings.now c.with.new.self)
     c.args.word.now cut.before.now cut.behind.now c.in-Some.ensures.cut
     c.is_ok.ensures.value c.with.ensures.set
 

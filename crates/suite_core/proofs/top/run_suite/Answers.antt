@@ -7,7 +7,7 @@ use Rattle.account_model.specs.PlanWords.{command_words}
 use Rattle.account_model.specs.Request.{Request}
 use Rattle.option_words.specs.Parsed.{request_in}
 use Rattle.suite_answers.specs.declared.cause.Cause.TheVariants.{Memory}
-use Rattle.suite_answers.specs.Answers.{told, told_words}
+use Rattle.suite_answers.specs.Answers.{answer_for, told_words}
 use Rattle.suite_session.specs.Runner.{question}
 use Rattle.suite_course.specs.Streams.{streams}
 use Rattle.suite_course.specs.Supplies.{AreSupplied, reads_input, supplies}
@@ -51,9 +51,9 @@ returns-in-Err-clause-ran g c = λ request asks.
         ),
       )
           (subst (λ (one : Option Tool).
-          EndsEarly one (told request.tool (Memory Before)) was holds c.refuse_words.result)
+          EndsEarly one (answer_for request.tool (Memory Before)) was holds c.refuse_words.result)
           (named-asked c.args.words.now request asks)
-          (c.refuse_words.ensures (told request.tool (Memory Before)) (inl memory))),
+          (c.refuse_words.ensures (answer_for request.tool (Memory Before)) (inl memory))),
     )
 
 -- words that ask for something

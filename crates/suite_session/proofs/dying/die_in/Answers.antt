@@ -3,14 +3,14 @@ use Rattle.std.specs.Prelude.{OnOk}
 use Rattle.acct_outside.specs.NamedCalls.{call_of}
 use Rattle.memory_folder.specs.Events.{effect_in}
 use Rattle.memory_folder.specs.Logged.{with_event}
-use Rattle.memory_folder.specs.Memory.{Runs, past_of}
+use Rattle.memory_folder.specs.Memory.{HasRunning, past_of}
 use Rattle.suite_session.specs.Runner.{IsRead, Runner}
 use Rattle.suite_session.proofs.DyingLemmas.{death_of, dies-then, lawful-then, may-die, others-then, runs-there}
 use Rattle.suite_session.proofs.dying.die_in.Goals as goal
 
 pub die-requires-clause-running : goal.die-requires-clause-running
 die-requires-clause-running c =
-    subst (λ (one : Runner). Runs c.args.folder.now one.token) (sym c.runner.view_is)
+    subst (λ (one : Runner). HasRunning c.args.folder.now one.token) (sym c.runner.view_is)
     (runs-there c.args.folder.now c.args.runner.now c.args.state.now c.requires)
 
 pub die-requires-clause-call : goal.die-requires-clause-call

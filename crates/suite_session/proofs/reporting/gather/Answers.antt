@@ -1,7 +1,7 @@
 use Rattle.std.proofs.Common.{refl, sym, ap, ◌∙◌, Err, arith}
 use Rattle.acct_outside.specs.declared.CommitStage.TheVariants.{Before}
 use Rattle.acct_outside.specs.Calls.{reads}
-use Rattle.lock_steps.specs.Watching.{HasGathered, next_name}
+use Rattle.lock_steps.specs.Watching.{HasGathered, next_left}
 use Rattle.suite_session.specs.declared.state.State.TheVariants.{Gathering}
 use Rattle.suite_session.proofs.CallsLemmas.{answers-fewer, some-left}
 use Rattle.suite_session.proofs.ReportReads.{gather-calls, gather-came, gather-on, gather-keeps, gather-quiet, gathers-next, read-faults, unread-input}
@@ -31,7 +31,7 @@ returns-in-Ok g c = record {
       let some = some-left _ _ c.left.ensures c.if-left-eq0.false in
       let kept = gather-keeps reading _ _ c.in-Ok.ensures.call.shown in
       turns before now c.args.runner.now Before (HasGathered reading) c.requires.1
-      reading.token c.requires.0 (reads (next_name reading)) tt _ (λ result stood. refl)
+      reading.token c.requires.0 (reads (next_left reading)) tt _ (λ result stood. refl)
       c.in-Ok.ensures.call
       c.read_next.ensures.lawful c.read_next.ensures.faults.never_falls
       (Gathering reading) (Gathering c.in-Ok.reading) (gathers-next reading some)
@@ -40,7 +40,7 @@ returns-in-Ok g c = record {
       (λ met none. absurd none) (
         kept.0 ∙ c.requires.0,
         goes-on before now c.args.runner.now Before (HasGathered reading) c.requires.1
-            reading.token c.requires.0 (reads (next_name reading)) tt _ (λ result stood. refl)
+            reading.token c.requires.0 (reads (next_left reading)) tt _ (λ result stood. refl)
             c.in-Ok.ensures.call (HasGathered c.in-Ok.reading) c.in-Ok.ensures.next,
         c.requires.2,
         kept.1 ∙ c.requires.3,
@@ -61,7 +61,7 @@ returns-in-Err g c = record {
       let reading = c.args.reading in
       let some = some-left _ _ c.left.ensures c.if-left-eq0.false in
       read-faults before now c.args.runner.now (HasGathered reading) c.requires.1
-      reading.token c.requires.0 (reads (next_name reading)) tt _ (λ result stood. refl)
+      reading.token c.requires.0 (reads (next_left reading)) tt _ (λ result stood. refl)
       c.in-Err.ensures.call (gather-quiet reading (unread-input _ _ c.is_sound.ensures))
       c.read_next.ensures.lawful c.read_next.ensures.faults.never_falls
       (Gathering reading) c.failed.result (gathers-next reading some) (λ met none. none)

@@ -1,6 +1,6 @@
 use Rattle.std.proofs.Common.{sym, subst}
 use Rattle.table.specs.KeyPlaces.{told_places}
-use Rattle.table.specs.TableCells.{HoldsThere, IsTold}
+use Rattle.table.specs.TableCells.{HoldsThere, IsKeyed}
 use Rattle.table.proofs.KeptCells.{texts-noted}
 use Rattle.table.proofs.gathering.gathered.Goals as goal
 
@@ -10,7 +10,7 @@ cells-preserved g c = λ after widens left.
     let cell = c.in-Some.cell in
     c.cells.invariant after
     (λ key place told. widens key place (c.note_cell.ensures.widens key place told))
-    (subst (HoldsThere g.R.TableRecord.format (IsTold g.R.KeyedRecord.keys after))
+    (subst (HoldsThere g.R.TableRecord.format (IsKeyed g.R.KeyedRecord.keys after))
     (sym c.in-Some.ensures.taken) (
       texts-noted g.R.TableRecord.format g.R.KeyedRecord.keys
           (told_places c.note_cell.new.keys) after cell.place cell.texts widens
@@ -23,5 +23,5 @@ pub returns-clause-told : goal.returns-clause-told
 returns-clause-told g c =
     c.cells.invariant (told_places c.cells.keys) (λ key place told. told)
     (subst (HoldsThere g.R.TableRecord.format
-    (IsTold g.R.KeyedRecord.keys (told_places c.cells.keys)))
+    (IsKeyed g.R.KeyedRecord.keys (told_places c.cells.keys)))
     (sym c.in_default.ensures.taken) tt)

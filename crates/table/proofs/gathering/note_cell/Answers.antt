@@ -2,7 +2,7 @@ use Rattle.std.proofs.Common.{◌∙◌, refl, sym, ap, subst}
 use Rattle.std.specs.List.{AllByRecursion}
 use Rattle.table.specs.KeyPlaces.{has_key, told_places}
 use Rattle.table.specs.Keys.{keys_in}
-use Rattle.table.specs.TableCells.{HoldsOf, IsTold}
+use Rattle.table.specs.TableCells.{HoldsOf, IsKeyed}
 use Rattle.table.proofs.gathering.note_cell.Goals as goal
 
 -- the text that is taken is told of
@@ -14,7 +14,7 @@ texts-preserved g c = record {
       c.texts.invariant.told after
       (λ key place told. widens key place (c.note_line.ensures.kept key place told))
       (subst (AllByRecursion (HoldsOf g.R.TableRecord.format
-      (IsTold g.R.KeyedRecord.keys after c.args.cell.place)))
+      (IsKeyed g.R.KeyedRecord.keys after c.args.cell.place)))
       (sym c.in-Some.ensures.taken) (
         (λ r reads key has.
             widens key c.args.cell.place (c.note_line.ensures.noted key c.args.cell.place
@@ -28,5 +28,5 @@ pub returns-clause-told : goal.returns-clause-told
 returns-clause-told g c =
     c.texts.invariant.told (told_places c.texts.keys) (λ key place told. told)
     (subst (AllByRecursion (HoldsOf g.R.TableRecord.format
-    (IsTold g.R.KeyedRecord.keys (told_places c.texts.keys) c.args.cell.place)))
+    (IsKeyed g.R.KeyedRecord.keys (told_places c.texts.keys) c.args.cell.place)))
     (sym c.in_default.ensures.taken) tt)

@@ -2,7 +2,7 @@ use Rattle.std.proofs.Common.{sym, subst}
 use Rattle.acct_text.specs.Pieces.{cut_at}
 use Rattle.account_model.specs.Text.{comma, nonempty}
 use Rattle.table.specs.Keys.{name_keys}
-use Rattle.table.specs.KeyPlaces.{Notes, told_places}
+use Rattle.table.specs.KeyPlaces.{NotesOf, told_places}
 use Rattle.table.proofs.NoteLemmas.{notes-piece}
 use Rattle.table.proofs.key_names.note_listed.Goals as goal
 
@@ -19,5 +19,5 @@ names-preserved c = λ after behind.
 pub returns : goal.returns
 returns c =
     c.names.invariant (told_places c.note_piece-2.new.index)
-    (subst (λ pieces. Notes (name_keys (nonempty pieces)) c.args.spot (told_places c.names.index)
+    (subst (λ pieces. NotesOf (name_keys (nonempty pieces)) c.args.spot (told_places c.names.index)
     (told_places c.note_piece-2.new.index)) (sym c.in_default.ensures.cut) c.note_piece-2.ensures)

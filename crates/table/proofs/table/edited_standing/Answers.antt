@@ -2,7 +2,7 @@ use Rattle.std.proofs.Common.{◌∙◌, ap, refl}
 use Rattle.std.specs.Prelude.{Some}
 use Rattle.acct_text.specs.Lines.{file_bytes}
 use Rattle.line_edits.specs.SeenEdits.{seen_edits}
-use Rattle.table.specs.Standing.{file_in}
+use Rattle.table.specs.Standing.{standing_file}
 use Rattle.table.proofs.TableLemmas.{kept-edited}
 use Rattle.table.proofs.table.edited_standing.Goals as goal
 
@@ -11,5 +11,5 @@ pub returns-in_ok-edited-in-Indexed-clause-edited : goal.returns-in_ok-edited-in
 returns-in_ok-edited-in-Indexed-clause-edited g c =
     ap (λ lines. Some (file_bytes lines)) c.in_ok-edited-in-Indexed.ensures.edited
     ∙ kept-edited c.args.standing c.in-Indexed.cells c.in-Indexed.is c.requires.of_file
-    g.R.TableRecord.format (file_in c.args.standing) refl
+    g.R.TableRecord.format (standing_file c.args.standing) refl
     (seen_edits g.R.EditedRecord.becomes c.args.edits.now)

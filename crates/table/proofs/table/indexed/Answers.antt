@@ -5,7 +5,7 @@ use Rattle.acct_text.proofs.LinesLaws.{lines_of-are}
 use Rattle.acct_tables.specs.SeenLines.{AreOfFile}
 use Rattle.acct_tables.proofs.EditedFiles.{text-of_file}
 use Rattle.table.specs.Cells.{lines_now}
-use Rattle.table.specs.Standing.{file_in}
+use Rattle.table.specs.Standing.{standing_file}
 use Rattle.table.proofs.KeptCells.{start-lines}
 use Rattle.table.proofs.table.indexed.Goals as goal
 
@@ -18,7 +18,7 @@ returns-in_ok-of-in-Some-clause-same g c =
     ∙ ap Some (lines_of-are text).joined
     ∙ sym c.in-Some.is
     ∙ c.into_text.ensures
-    ∙ ap file_in (sym c.in-File.is)
+    ∙ ap standing_file (sym c.in-File.is)
 
 -- they are those of the file
 pub returns-in_ok-of-in-Some-clause-of_file : goal.returns-in_ok-of-in-Some-clause-of_file

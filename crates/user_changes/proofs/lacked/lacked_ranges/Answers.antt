@@ -3,14 +3,14 @@ use Rattle.std.proofs.lemmas.List.{map-append}
 use Rattle.account_model.specs.UsermodRanges.{has_range, new_ranges}
 use Rattle.command_values.specs.Ranges.{ids_named}
 use Rattle.subid_ranges.specs.RangeLines.{owner_of as range_owner, with_range}
-use Rattle.user_changes.specs.Ranges.{owner_of}
+use Rattle.user_changes.specs.Ranges.{owner_in}
 use Rattle.user_changes.proofs.LackedLemmas.{held-on, lacked-on}
 use Rattle.user_changes.proofs.lacked.lacked_ranges.Goals as goal
 
 pub loop-ids-preserved-then-has_range : goal.loop-ids-preserved-then-has_range
 loop-ids-preserved-then-has_range c =
     let ranges = c.args.ranges.now in
-    let owner = owner_of ranges in
+    let owner = owner_in ranges in
     let items = c.deref-ids-items.result.now in
     let ids = c.ids-item.result in
     let lines = c.loop-ids.lines in
@@ -24,7 +24,7 @@ loop-ids-preserved-then-has_range c =
 pub loop-ids-preserved : goal.loop-ids-preserved
 loop-ids-preserved c =
     let ranges = c.args.ranges.now in
-    let owner = owner_of ranges in
+    let owner = owner_in ranges in
     let items = c.deref-ids-items.result.now in
     let ids = c.ids-item.result in
     let lines = c.loop-ids.lines in

@@ -8,14 +8,14 @@ use Rattle.account_model.specs.Records.{subid_format}
 use Rattle.account_model.specs.UsermodRanges.{edits_before_adding}
 use Rattle.line_edits.specs.SeenEdits.{seen_edits}
 use Rattle.line_edits.specs.SubidChanges.{subid_becomes}
-use Rattle.user_changes.specs.Ranges.{change_of, owner_of}
+use Rattle.user_changes.specs.Ranges.{id_change, owner_in}
 use Rattle.user_changes.proofs.MeetingLemmas.{lines-before, removals-written}
 use Rattle.user_changes.proofs.lacked.lines_before.Goals as goal
 
 pub edited_ranges-requires : goal.edited_ranges-requires
 edited_ranges-requires c =
-    let owner = owner_of c.args.ranges.now in
-    let change = change_of c.args.ranges.now in
+    let owner = owner_in c.args.ranges.now in
+    let change = id_change c.args.ranges.now in
     let before = edits_before_adding owner change in
     let seen : seen_edits subid_becomes c.as_slice.result.now ≡ before =
     ap (seen_edits subid_becomes) c.as_slice.ensures.value
@@ -26,8 +26,8 @@ edited_ranges-requires c =
 
 pub returns : goal.returns
 returns c =
-    let owner = owner_of c.args.ranges.now in
-    let change = change_of c.args.ranges.now in
+    let owner = owner_in c.args.ranges.now in
+    let change = id_change c.args.ranges.now in
     let before = edits_before_adding owner change in
     let text = c.args.text.now in
     let seen : seen_edits subid_becomes c.as_slice.result.now ≡ before =

@@ -2,7 +2,7 @@ use Rattle.std.proofs.Common.{◌∙◌, sym, ap, subst}
 use Rattle.acct_text.specs.Files.{table_of}
 use Rattle.account_model.specs.UsermodRanges.{change_in}
 use Rattle.account_model.specs.Written.{IsNameField}
-use Rattle.user_changes.specs.Ranges.{owner_by, owner_of, range_table, ranges_asked}
+use Rattle.user_changes.specs.Ranges.{owner_by, owner_in, range_table, ranges_asked}
 use Rattle.user_changes.proofs.lacked.user_ranges.Goals as goal
 
 pub leave_held-requires : goal.leave_held-requires
@@ -22,6 +22,6 @@ returns-clause-change c =
     let is = c.in_ok-ranges.ensures {u = tt} in
     let file = table_of c.args.tables.now (range_table c.args.sort) in
     c.in_ok-leave_held.ensures.change
-    ∙ ap (λ change. change_in file (owner_of c.in_ok-ranges.ranges) change) is.change
+    ∙ ap (λ change. change_in file (owner_in c.in_ok-ranges.ranges) change) is.change
     ∙ ap (λ owner. change_in file owner change) is.owner
     ∙ ap (λ uid. change_in file (owner_by asked uid) change) c.requires.uid

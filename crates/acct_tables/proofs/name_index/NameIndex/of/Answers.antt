@@ -1,7 +1,7 @@
 use Rattle.std.proofs.Common.{◌∙◌, ◌+◌, ap, length, take, sym, subst, arith}
 use Rattle.std.specs.Prelude.{Some, None}
 use Rattle.acct_text.specs.Lines.{lines_of}
-use Rattle.acct_tables.specs.NameIndex.{IsNoted, Tells, TellsAtMost, line_names, told}
+use Rattle.acct_tables.specs.NameIndex.{IsNoted, TellsOf, TellsAtMost, line_names, told}
 use Rattle.acct_tables.specs.SeenLines.{seen_line}
 use Rattle.acct_tables.proofs.LinesCounted.{lines-counted}
 use Rattle.acct_tables.proofs.NameIndexLemmas.{names-many, names-more, next-behind, next-inside, none-left, told-other, told-record, told-within}
@@ -57,15 +57,15 @@ lines-preserved g c =
         | in-Some-name_of+in_ok-add w ↦
             let name = w.in-Some-name_of.name.now in
             let new = told w.add.new.self in
-            subst (λ index. Tells (line_names format (take (place + 1) all)) (told index))
+            subst (λ index. TellsOf (line_names format (take (place + 1) all)) (told index))
             (sym w.index-is)
-            (subst (λ names. Tells names new) (sym (more (Some name) w.in-Some-name_of.ensures))
+            (subst (λ names. TellsOf names new) (sym (more (Some name) w.in-Some-name_of.ensures))
             (told-record names old c.lines.invariant.tells name new
             (subst (λ n. IsNoted name n old new) (sym many) w.in_ok-add.ensures)))
         | in_default-name_of w ↦
-            subst (λ index. Tells (line_names format (take (place + 1) all)) (told index))
+            subst (λ index. TellsOf (line_names format (take (place + 1) all)) (told index))
             (sym w.index-is)
-            (subst (λ names. Tells names old) (sym (more None w.in_default-name_of.ensures))
+            (subst (λ names. TellsOf names old) (sym (more None w.in_default-name_of.ensures))
             (told-other names old c.lines.invariant.tells))
       ];
     }
@@ -77,6 +77,6 @@ pub returns : goal.returns
 returns g c =
     let format = g.R.TableRecord.format in
     let all = lines_of c.args.text.now in
-    subst (λ lines. Tells (line_names format lines) (told c.lines.index))
+    subst (λ lines. TellsOf (line_names format lines) (told c.lines.index))
     (none-left all c.lines.place (sym c.lines.invariant.so_far ∙ c.in_default.ensures.taken))
     c.lines.invariant.tells

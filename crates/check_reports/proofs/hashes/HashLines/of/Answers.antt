@@ -1,7 +1,7 @@
 use Rattle.std.proofs.Common.{◌∙◌, ◌+◌, ap, length, take, sym, subst, arith}
 use Rattle.std.specs.Prelude.{Some, None, option_map}
 use Rattle.account_model.specs.Records.{shadow_format}
-use Rattle.acct_tables.specs.NameIndex.{IsNoted, Tells, TellsAtMost, line_names, told}
+use Rattle.acct_tables.specs.NameIndex.{IsNoted, TellsOf, TellsAtMost, line_names, told}
 use Rattle.acct_tables.specs.SeenLines.{seen_line}
 use Rattle.acct_tables.proofs.LinesCounted.{lines-counted}
 use Rattle.acct_tables.proofs.NameIndexLemmas.{names-many, names-more, next-behind, next-inside, none-left, told-other, told-record, told-within}
@@ -64,16 +64,16 @@ lines-preserved c =
         | in-Some-hash+in_ok-add w ↦
             let name = w.in-Some-hash.hash.name.now in
             let new = told w.add.new.self in
-            subst (λ index. Tells (line_names shadow_format (take (place + 1) all)) (told index))
+            subst (λ index. TellsOf (line_names shadow_format (take (place + 1) all)) (told index))
             (sym w.names-is)
-            (subst (λ names. Tells names new)
+            (subst (λ names. TellsOf names new)
             (sym (more (Some name) (sym (named ∙ ap (option_map hash_name) w.in-Some-hash.is))))
             (told-record names old c.lines.invariant.tells name new
             (subst (λ n. IsNoted name n old new) (sym many) w.in_ok-add.ensures)))
         | in_default-hash w ↦
-            subst (λ index. Tells (line_names shadow_format (take (place + 1) all)) (told index))
+            subst (λ index. TellsOf (line_names shadow_format (take (place + 1) all)) (told index))
             (sym w.names-is)
-            (subst (λ names. Tells names old)
+            (subst (λ names. TellsOf names old)
             (sym (more None (sym (named ∙ ap (option_map hash_name) w.in_default-hash.is))))
             (told-other names old c.lines.invariant.tells))
       ];
@@ -84,7 +84,7 @@ lines-smaller c = omega (arith, ap length c.in-Some.ensures.taken)
 
 pub returns : goal.returns
 returns c =
-    subst (λ lines. Tells (line_names shadow_format lines) (told c.lines.names))
+    subst (λ lines. TellsOf (line_names shadow_format lines) (told c.lines.names))
     (none-left (lines_in c.args.file.now) c.lines.place
     (sym c.lines.invariant.so_far ∙ c.in_default.ensures.taken))
     c.lines.invariant.tells

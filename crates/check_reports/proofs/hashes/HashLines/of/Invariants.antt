@@ -1,6 +1,6 @@
 use Rattle.std.proofs.Common.{◌≡◌, drop, length, take}
 use Rattle.account_model.specs.Records.{shadow_format}
-use Rattle.acct_tables.specs.NameIndex.{Tells, line_names, told}
+use Rattle.acct_tables.specs.NameIndex.{TellsOf, line_names, told}
 use Rattle.acct_tables.specs.TablesOfLines.{lines_in}
 use Rattle.check_reports.proofs.hashes.HashLines.of.Given as goal
 
@@ -8,7 +8,7 @@ use Rattle.check_reports.proofs.hashes.HashLines.of.Given as goal
 abbrev pub invariant-lines : goal.invariant-lines
 invariant-lines l = record {
   so_far : l.left ≡ drop l.place (lines_in l.file);
-  tells : Tells (line_names shadow_format (take l.place (lines_in l.file))) (told l.names);
+  tells : TellsOf (line_names shadow_format (take l.place (lines_in l.file))) (told l.names);
 }
 
 abbrev pub decreases-lines : goal.decreases-lines

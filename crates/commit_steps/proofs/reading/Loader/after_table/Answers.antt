@@ -1,7 +1,7 @@
 use Rattle.std.proofs.Common.{sym, ap, subst, ◌∙◌, Option}
 use Rattle.acct_text.specs.declared.Tab.{Tab}
 use Rattle.acct_text.specs.declared.files.Files.{Files}
-use Rattle.commit_steps.specs.States.{Reader, AreSound, table_after}
+use Rattle.commit_steps.specs.States.{Reader, AreSound, table_behind}
 use Rattle.commit_steps.proofs.TablesLemmas.{sound-on}
 use Rattle.commit_steps.proofs.reading.Loader.after_table.Goals as goal
 
@@ -13,6 +13,6 @@ invariant_of-self c =
     next c.self.invariant in
     let stands = sym c.is_missing.ensures ∙ c.if-is_missing.false in
     subst (λ (next : Option Tab). AreSound next c.put.new.self)
-    (sym c.table_after-self-inside.ensures)
-    (subst (λ (files : Files). AreSound (table_after table) files) (sym c.put.ensures)
+    (sym c.table_behind-self-inside.ensures)
+    (subst (λ (files : Files). AreSound (table_behind table) files) (sym c.put.ensures)
     (sound-on table c.args.content c.self.inside.files sound stands c.requires.limit))

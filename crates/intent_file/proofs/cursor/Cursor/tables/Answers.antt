@@ -1,8 +1,8 @@
 use Rattle.std.proofs.Common.{◌≡◌, ◌++◌, ◌∙◌, ◌+◌, ℕ, [], ◌∷◌, refl, sym, ap, subst, List, arith}
 use Rattle.intent_file.specs.declared.IntentFault.TheVariants.{Part}
-use Rattle.intent_file.specs.Cursor.{Takes, TakesTables, TellsLack}
+use Rattle.intent_file.specs.Cursor.{TakesValue, TakesTables, TellsLack}
 use Rattle.intent_file.specs.Intent.{NewTable, is_in_order, table_part}
-use Rattle.intent_file.specs.Parts.{BeginsWith, BeginsWithNone, IsNext}
+use Rattle.intent_file.specs.Parts.{BeginsWith, BeginsWithNone, MayBeListed}
 use Rattle.intent_file.proofs.PartsLemmas.{listed-none}
 use Rattle.intent_file.proofs.TakesLemmas.{tables-more, tables-lack}
 use Rattle.intent_file.proofs.IntentLemmas.{missing-fault}
@@ -23,10 +23,10 @@ pub returns-in_err-next-clause-damaged : goal.returns-in_err-next-clause-damaged
 returns-in_err-next-clause-damaged c =
     let behind = c.parts.self in
     let missed = subst
-    (λ o. Takes (IsNext c.deref.result.now) table_part behind o c.next_table.new.self)
+    (λ o. TakesValue (MayBeListed c.deref.result.now) table_part behind o c.next_table.new.self)
     c.in_err-next.ensures.ok_part c.next_table.ensures in
     let none = subst
-    (λ (tables : List NewTable). BeginsWithNone (IsNext tables) table_part behind)
+    (λ (tables : List NewTable). BeginsWithNone (MayBeListed tables) table_part behind)
     c.deref.ensures.value missed in
     missing-fault (TellsLack c.args.self.now c.args.count) c.next_table.result
     (Part (c.parts.place + 1)) c.in_err-next.field-0.0 c.from_residual.result
@@ -40,10 +40,10 @@ parts-preserved c =
     let behind = c.parts.self in
     let new = c.next_table.new.self in
     let next = c.in_ok-next.next in
-    let taken = subst (λ o. Takes (IsNext c.deref.result.now) table_part behind o new)
+    let taken = subst (λ o. TakesValue (MayBeListed c.deref.result.now) table_part behind o new)
     c.in_ok-next.ensures.ok_part c.next_table.ensures in
     let begins = subst
-    (λ (tables : List NewTable). BeginsWith (IsNext tables) table_part behind next new)
+    (λ (tables : List NewTable). BeginsWith (MayBeListed tables) table_part behind next new)
     c.deref.ensures.value taken in
     let pushed : c.push.new.self.items ≡ c.parts.tables.items ++ next ∷ [] =
     c.in_ok-push.ensures.items

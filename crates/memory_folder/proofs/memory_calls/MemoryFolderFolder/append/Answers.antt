@@ -8,7 +8,7 @@ use Rattle.acct_outside.specs.Tokens.{Token}
 use Rattle.acct_outside.specs.Calls.{appends}
 use Rattle.memory_folder.specs.Plan.{planned_effect}
 use Rattle.memory_folder.specs.Logged.{folder_after}
-use Rattle.memory_folder.specs.Memory.{FailsAsPlanned, TellsAct, TellsIn, calls_of, past_of, plan_of}
+use Rattle.memory_folder.specs.Memory.{FailsAsPlanned, TellsAct, TellsIn, call_count, past_of, fault_plan}
 use Rattle.memory_folder.proofs.ToldLemmas.{told_want, told_done, gives_after, source-stands}
 use Rattle.memory_folder.proofs.memory_calls.MemoryFolderFolder.append.Goals as goal
 
@@ -22,7 +22,7 @@ tells_append old new by name piece (Ok unit) planned is =
     told_done (past_of old) (past_of new) by (appends name piece)
     (gives_after by (appends name piece)) tt is
     (source-stands ((folder_after (past_of old)).file name)
-    (planned_effect (calls_of new) (plan_of new)) planned)
+    (planned_effect (call_count new) (fault_plan new)) planned)
 tells_append old new by name piece (Err fault) planned is = is
 
 pub returns-in_err-of-clause-told : goal.returns-in_err-of-clause-told

@@ -8,7 +8,7 @@ use Rattle.acct_outside.specs.Moment.{Past}
 use Rattle.acct_outside.specs.Contract.{MayAct}
 use Rattle.memory_folder.specs.Logged.{with_event}
 use Rattle.memory_folder.specs.Events.{begin_event, command_of}
-use Rattle.memory_folder.specs.Memory.{alive_of, moment_of, past_of, Runs}
+use Rattle.memory_folder.specs.Memory.{alive_of, moment_of, past_of, HasRunning}
 use Rattle.memory_folder.specs.declared.memory.MemoryFolder.{MemoryFolder}
 use Rattle.memory_folder.proofs.ToldLemmas.{Begins, begin_memory, begin_fault, begin_started, begun_runs, may_act}
 use Rattle.memory_folder.proofs.memory_calls.MemoryFolderFolder.begin.Goals as goal
@@ -18,14 +18,14 @@ starts : (old : Past) (new : MemoryFolder) (outsiders : List Token) (command : C
     (result : Result Token FolderFault)
     → IfOk result (λ token. past_of new ≡ with_event (begin_event (Some token) command) old)
     → IfOk result (IsFirstUnused old outsiders)
-    → IfOk result (Runs new)
+    → IfOk result (HasRunning new)
 starts old new outsiders command (Ok token) is first =
     record { runs = begun_runs old (past_of new) command token first.unused.no_event is }
 starts old new outsiders command (Err fault) is first = tt
 
 -- a session that a begin started may call the folder
 may_call : (new : MemoryFolder) (result : Result Token FolderFault)
-    → IfOk result (Runs new)
+    → IfOk result (HasRunning new)
     → IfOk result (MayAct (moment_of new))
 may_call new (Ok token) runs = may_act new token runs
 may_call new (Err fault) runs = tt

@@ -7,7 +7,7 @@ use Rattle.acct_outside.specs.Tokens.{Token}
 use Rattle.acct_outside.specs.Calls.{renames}
 use Rattle.memory_folder.specs.Plan.{planned_effect}
 use Rattle.memory_folder.specs.Logged.{folder_after}
-use Rattle.memory_folder.specs.Memory.{FailsAsPlanned, TellsAct, TellsIn, calls_of, past_of, plan_of}
+use Rattle.memory_folder.specs.Memory.{FailsAsPlanned, TellsAct, TellsIn, call_count, past_of, fault_plan}
 use Rattle.memory_folder.proofs.ToldLemmas.{told_done, gives_after, source-stands}
 use Rattle.memory_folder.proofs.memory_calls.MemoryFolderFolder.rename.Goals as goal
 
@@ -21,7 +21,7 @@ tells_rename old new by from to (Ok unit) planned is =
     told_done (past_of old) (past_of new) by (renames from to) (gives_after by (renames from to))
     tt is
     (source-stands ((folder_after (past_of old)).file from)
-    (planned_effect (calls_of new) (plan_of new)) planned)
+    (planned_effect (call_count new) (fault_plan new)) planned)
 tells_rename old new by from to (Err fault) planned is = is
 
 pub returns-clause-told : goal.returns-clause-told

@@ -3,7 +3,7 @@ use Rattle.std.specs.Prelude.{if◌then◌else◌}
 use Rattle.std.proofs.lemmas.List.{nil_from_length}
 use Rattle.account_model.specs.Spelling.{WordReading, letters_reading, letter_reading, value_behind, flag_before}
 use Rattle.account_model.specs.SeenRows.{form_of}
-use Rattle.option_words.specs.Reading.{table_of, options_of_word}
+use Rattle.option_words.specs.Reading.{forms_of, options_of_word}
 use Rattle.option_words.proofs.ReadingLemmas.{letters_reading-cons, options_of_word-flag, options_of_word-nothing}
 use Rattle.option_words.proofs.reading.Reading.take_letters.Goals as goal
 
@@ -12,9 +12,9 @@ returns-in_default-form_of_letter c =
     let reading = c.letters.self in
     let letter = c.in-Some.letter.now in
     let behind = c.in-Some.behind.now in
-    let rest = letters_reading (table_of reading) behind in
+    let rest = letters_reading (forms_of reading) behind in
     let read =
-    letters_reading-cons (table_of reading) c.letters.letters.now letter behind
+    letters_reading-cons (forms_of reading) c.letters.letters.now letter behind
     (option_map form_of c.form_of_letter.result) (c.in-Some.ensures {u = tt}).cases.0
     c.form_of_letter.ensures
     ∙ ap (λ form. letter_reading letter (option_map form_of form) behind rest)
@@ -28,12 +28,12 @@ returns-then-takes_value c =
     let letter = c.in-Some.letter.now in
     let behind = c.in-Some.behind.now in
     let form = form_of c.in-Some-form_of_letter.form in
-    let rest = letters_reading (table_of reading) behind in
+    let rest = letters_reading (forms_of reading) behind in
     let takes : form.takes_value ≡ true = sym c.takes_value.ensures ∙ c.if-takes_value.true in
     let when : Bool → WordReading =
     λ takes. if takes then value_behind letter behind else flag_before letter rest in
     let read =
-    letters_reading-cons (table_of reading) c.letters.letters.now letter behind
+    letters_reading-cons (forms_of reading) c.letters.letters.now letter behind
     (option_map form_of c.form_of_letter.result) (c.in-Some.ensures {u = tt}).cases.0
     c.form_of_letter.ensures
     ∙ ap (λ form. letter_reading letter (option_map form_of form) behind rest)
@@ -50,12 +50,12 @@ letters-preserved c =
     let letter = c.in-Some.letter.now in
     let behind = c.in-Some.behind.now in
     let form = form_of c.in-Some-form_of_letter.form in
-    let rest = letters_reading (table_of reading) behind in
+    let rest = letters_reading (forms_of reading) behind in
     let flag : form.takes_value ≡ false = sym c.takes_value.ensures ∙ c.if-takes_value.false in
     let when : Bool → WordReading =
     λ takes. if takes then value_behind letter behind else flag_before letter rest in
     let read =
-    letters_reading-cons (table_of reading) c.letters.letters.now letter behind
+    letters_reading-cons (forms_of reading) c.letters.letters.now letter behind
     (option_map form_of c.form_of_letter.result) (c.in-Some.ensures {u = tt}).cases.0
     c.form_of_letter.ensures
     ∙ ap (λ form. letter_reading letter (option_map form_of form) behind rest)
@@ -67,13 +67,15 @@ letters-preserved c =
       outcome = λ words. c.letters.invariant.outcome words
           ∙ ap (λ options. options_of_word reading place options words) read
           ∙ options_of_word-flag reading place words letter rest
-          ∙ ap (λ reading. options_of_word reading place (letters_reading (table_of reading) behind) words)
+          ∙ ap
+          (λ reading.
+          options_of_word reading place (letters_reading (forms_of reading) behind) words)
           kept;
     }
 
 pub returns : goal.returns
 returns c = λ words. c.letters.invariant.outcome words
     ∙ ap (λ letters. options_of_word c.letters.self c.args.place
-    (letters_reading (table_of c.letters.self) letters) words)
+    (letters_reading (forms_of c.letters.self) letters) words)
     (nil_from_length c.letters.letters.now (c.in_default.ensures {u = tt}).cases)
     ∙ options_of_word-nothing c.letters.self c.args.place words c.letters.invariant.any

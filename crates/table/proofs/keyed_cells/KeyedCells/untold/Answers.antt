@@ -7,7 +7,7 @@ use Rattle.acct_text.specs.Lines.{lines_of}
 use Rattle.acct_text.proofs.LinesLaws.{lines_of-are}
 use Rattle.table.specs.Cells.{ArePlaced, cells_from}
 use Rattle.table.proofs.PlacedCells.{ascend-placed, lines-ascend}
-use Rattle.table.specs.TableCells.{IsSound, IsTold}
+use Rattle.table.specs.TableCells.{IsSound, IsKeyed}
 use Rattle.table.proofs.KeptCells.{start-sound}
 use Rattle.table.proofs.ReachLemmas.{there-all}
 use Rattle.table.proofs.keyed_cells.KeyedCells.untold.Goals as goal
@@ -21,7 +21,7 @@ invariant_of-result g c =
       placed = subst ArePlaced (sym c.of.ensures)
           (ascend-placed 0 (cells_from 0 (lines_of c.args.text))
           (lines-ascend 0 (lines_of c.args.text) (lines_of-are c.args.text).ended));
-      told_of = there-all g.R.TableRecord.format (IsTold g.R.KeyedRecord.keys told) c.of.result
+      told_of = there-all g.R.TableRecord.format (IsKeyed g.R.KeyedRecord.keys told) c.of.result
           (λ place r key has. subst (λ found. IfSome found (λ places. is_used places place ≡ true))
           (sym (c.in_ok-untold.ensures key)) tt);
     }

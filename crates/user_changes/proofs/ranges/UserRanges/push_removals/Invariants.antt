@@ -3,7 +3,7 @@ use Rattle.account_model.specs.UsermodRanges.{cut_range, renaming}
 use Rattle.command_values.specs.Ranges.{ids_named}
 use Rattle.line_edits.specs.SeenEdits.{seen_edits}
 use Rattle.line_edits.specs.SubidChanges.{subid_becomes}
-use Rattle.user_changes.specs.Ranges.{owner_of}
+use Rattle.user_changes.specs.Ranges.{owner_in}
 use Rattle.user_changes.proofs.ranges.UserRanges.push_removals.Given as goal
 
 -- behind the edits of before stand the renaming and the removals so far
@@ -11,5 +11,5 @@ abbrev pub invariant-loop-ids : goal.invariant-loop-ids
 invariant-loop-ids l =
     seen_edits subid_becomes l.edits.items
     ≡ seen_edits subid_becomes l.fn.edits.items
-    ++ (renaming (owner_of l.self)
-    ++ map (cut_range (owner_of l.self)) (map ids_named (take l.ids-index l.ids-items)))
+    ++ (renaming (owner_in l.self)
+    ++ map (cut_range (owner_in l.self)) (map ids_named (take l.ids-index l.ids-items)))
