@@ -221,7 +221,8 @@ chage-lawful request input day files settings =
     in let other = changes (chage_refusals request files) (chage_script request files)
     in record {
       script = by-choice (λ action. first_some action.refusals ≡ None
-          → IsLawful day false false (named_by Chage request [] files) action.script) lists one other
+          → IsLawful day false false (named_by Chage request [] files) action.script) lists one
+          other
           (λ is none. (lawful-composed _).none) (λ is none. chage-script-lawful request files);
       plain = by-choice IsPlain lists one other (λ is. inl refl) (λ is. inl refl);
       report = λ rules asked. by-choice (λ action. action.script ≡ no_edits) lists one other
@@ -309,8 +310,10 @@ set-hash-lawful :
     → bytes_eq other name ≡ false)
     → IsField hash
     → IsLawful day false false named (set_hash whose name hash files day)
-set-hash-lawful Users day named name hash files has is = user-hash-lawful named name hash files has is
-set-hash-lawful Groups day named name hash files has is = group-hash-lawful named name has hash files is
+set-hash-lawful Users day named name hash files has is =
+    user-hash-lawful named name hash files has is
+set-hash-lawful Groups day named name hash files has is =
+    group-hash-lawful named name has hash files is
 
 -- the first line, and those behind it, have no problem
 first-good :
@@ -336,7 +339,8 @@ lines-lawful :
     → AllByRecursion (IsLawful day false false named) (map (line_script whose files day) lines)
 lines-lawful whose day number named files [] has apart none = tt
 lines-lawful whose day number named files (line ∷ lines) has apart none =
-    let good = first-good whose number files line lines (line_problem whose files line.text) refl none
+    let good = first-good whose number files line lines
+        (line_problem whose files line.text) refl none
     in let others = names_of_lines lines
     in (
       set-hash-lawful whose day named (line_account line.text) (line_hash line.text) files

@@ -138,7 +138,8 @@ module _ (ensuring : Bool) (day : ℕ) (settings : List Setting) (Holds : Files 
 
 -- a line that is done and those behind it leave all
 line-stays :
-    (line : LineRequest) (rest : List LineRequest) (day : ℕ) (settings : List Setting) (files : Files)
+    (line : LineRequest) (rest : List LineRequest) (day : ℕ) (settings : List Setting)
+    (files : Files)
     → IsDoneOn day settings files line
     → LeavesAll rest day settings files
     → LeavesAll (line ∷ rest) day settings files

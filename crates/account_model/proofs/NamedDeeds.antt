@@ -115,7 +115,8 @@ module _ (one other : Named) where
         (not-back (bytes_eq r.name) one.users other.users parts.0)
         (or_parts one.all_users other.all_users parts.1).1;
     group = λ r none. let parts = group-parts both r none in
-        or_from (is_listed r.name other.groups) (lists_any r.members other.users || other.all_groups)
+        or_from (is_listed r.name other.groups)
+        (lists_any r.members other.users || other.all_groups)
         (not-back (bytes_eq r.name) one.groups other.groups parts.0)
         (or_from (lists_any r.members other.users) other.all_groups
         (lists-back r.members one.users other.users parts.1)

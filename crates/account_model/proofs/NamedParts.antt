@@ -88,7 +88,8 @@ module _ (named : Named) (group : List ℕ)
 
       -- the line of gshadow that is made
       pub make-group-spares :
-          (found : GroupRecord) → found.name ≡ group → SparesUnnamed sorts named (make_gshadow found)
+          (found : GroupRecord) → found.name ≡ group
+          → SparesUnnamed sorts named (make_gshadow found)
       make-group-spares found is = groups-spare _ _ (
         where-spares group_format sorts _ (is_named group_format found.name)
             (λ one. record one { password = elsewhere })

@@ -138,7 +138,8 @@ pub kept-apart :
     → AreApartUpTo kept first
 kept-apart old kept first last ordered apart keeps =
     let was = λ (begin end : ℕ) (run : HoldsRun kept begin end) (before : begin ≤ first).
-    sym (keeps.beside begin (λ same. lt_irrefl last (omega (arith, same, before, ordered)))) ∙ run in
+    sym (keeps.beside begin (λ same. lt_irrefl last (omega (arith, same, before, ordered))))
+    ∙ run in
     record {
       keys = keeps.ordered;
       ordered = λ begin end run before. apart.ordered begin end (was begin end run before);
@@ -304,7 +305,8 @@ module _
   }
 
   -- an old number before the numbers or behind them is left
-  old-left : (number : ℕ) → LiesIn old number → (number < first) ⊎ (last < number) → LiesIn new number
+  old-left : (number : ℕ) → LiesIn old number → (number < first) ⊎ (last < number)
+      → LiesIn new number
   old-left number lies (inl less) = record {
     first = lies.first;
     last = min lies.last (first - 1);
@@ -339,7 +341,8 @@ module _
   ]
 
   -- a number that is left is an old one beside them
-  new-from : (number : ℕ) → LiesIn new number → LiesIn old number × ((number < first) ⊎ (last < number))
+  new-from : (number : ℕ) → LiesIn new number
+      → LiesIn old number × ((number < first) ⊎ (last < number))
   new-from number lies =
       let part = part-of lies.first lies.last lies.run in (
         record {

@@ -302,9 +302,11 @@ script-apart :
     → is_used (used_uids files) id ≡ false)
     → ((id : ℕ) → gid ≡ Some id → makes_group request settings ≡ true
     → is_used (used_gids files) id ≡ false)
-    → KeepsApart Useradd request files (useradd_script request files (plan_of request files settings)
+    → KeepsApart Useradd request files (useradd_script request files
+    (plan_of request files settings)
     (new_shadow request settings day) uid gid)
-script-apart request files settings day None gid unused_uid unused_gid = kept-apart keep-composed.none
+script-apart request files settings day None gid unused_uid unused_gid =
+    kept-apart keep-composed.none
 script-apart request files settings day (Some uid) None unused_uid unused_gid =
     kept-apart keep-composed.none
 script-apart request files settings day (Some uid) (Some gid) unused_uid unused_gid =

@@ -101,7 +101,8 @@ module _ {R : Type 0} (format : Format R) (tells : TellsSame format) (f : R → 
         }
 
     -- from a text on that is open from there
-    pub open-further : (next : List ℕ) → IsOpenFrom format f behind next → IsOpenFrom format f text next
+    pub open-further : (next : List ℕ) → IsOpenFrom format f behind next
+        → IsOpenFrom format f text next
     open-further next to = record {
       front = from.front ++ to.front;
       joined = from.joined ∙ ap (λ tail. from.front ++ tail) to.joined

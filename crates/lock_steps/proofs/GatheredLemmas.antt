@@ -276,7 +276,8 @@ begun-found wanted watched found intent told = record {
     is-input name input = absurd (true≢false (sym input))
 
 -- Once the first of the names that are left is read, what is kept is what was found.
-pub read-found : (wanted : List Tab) (watched : Name → Option Found) (gathered : Gathered) (name : Name)
+pub read-found : (wanted : List Tab) (watched : Name → Option Found)
+    (gathered : Gathered) (name : Name)
     (names : List Name) (found : Found) → AreUnread gathered.large (name ∷ names) →
     HasFound wanted watched gathered (name ∷ names) →
     HasFound wanted (watched_with name found watched) (with_found name found gathered) names

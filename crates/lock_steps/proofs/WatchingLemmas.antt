@@ -276,4 +276,5 @@ bytes-shown watcher wanted bytes intent tables (Ok reading) told listed begun fa
       begun ∙ ap₂ (begun_reading watcher wanted) (sym same) (sym listed),
     )
 bytes-shown watcher wanted bytes intent tables (Err Memory) told listed begun failed = tt
-bytes-shown watcher wanted bytes intent tables (Err Failed) told listed begun failed = absurd (cc failed)
+bytes-shown watcher wanted bytes intent tables (Err Failed) told listed begun failed =
+    absurd (cc failed)

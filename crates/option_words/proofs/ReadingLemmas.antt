@@ -37,7 +37,8 @@ pub last_of-cons :
 last_of-cons value [] before = refl
 last_of-cons value (next ∷ []) before = refl
 last_of-cons value (next ∷ other ∷ values) before =
-    last_of-cons next (other ∷ values) before ∙ sym (last_of-cons next (other ∷ values) (Some value))
+    last_of-cons next (other ∷ values) before
+    ∙ sym (last_of-cons next (other ∷ values) (Some value))
 
 -- the same where the first may be none
 pub last_of-cons_option :
@@ -77,8 +78,10 @@ pub request_by-operand :
     ≡ request_by (record reading { operands = reading.operands ++ word ∷ [] }) read
 request_by-operand reading word (Err fault) = refl
 request_by-operand reading word (Ok read) =
-    ap (λ operands. request_with reading.tool (reading.options ++ without_prefix reading.tool read.0)
-    operands (prefix_for reading.whose (option_or (prefix_value reading.tool read.0) reading.prefix)))
+    ap (λ operands. request_with reading.tool
+    (reading.options ++ without_prefix reading.tool read.0)
+    operands (prefix_for reading.whose
+    (option_or (prefix_value reading.tool read.0) reading.prefix)))
     (sym (append_assoc reading.operands (word ∷ []) read.1))
 
 -- ---- The options of a word

@@ -84,8 +84,8 @@ impl Reading {
 
     // Takes the word at a place.
     fn take(&mut self, place: usize, word: &[u8]) -> Result<(), WordFault>
-        ensures { ReadsOn (λ words. outcome_of self.old place (word.now ∷ words)) self.new (suc place)
-            result }
+        ensures { ReadsOn (λ words. outcome_of self.old place (word.now ∷ words)) self.new
+            (suc place) result }
     {
         match self.expects {
             Expects::AnyWord => self.take_word(place, word),
@@ -100,8 +100,8 @@ impl Reading {
     // Takes a word by what it is.
     fn take_word(&mut self, place: usize, word: &[u8]) -> Result<(), WordFault>
         requires { self.old.expects ≡ Expects.AnyWord }
-        ensures { ReadsOn (λ words. outcome_of self.old place (word.now ∷ words)) self.new (suc place)
-            result }
+        ensures { ReadsOn (λ words. outcome_of self.old place (word.now ∷ words)) self.new
+            (suc place) result }
     {
         match meaning_of(word) {
             Meaning::Operand => self.take_operand(place, word),
@@ -236,8 +236,8 @@ impl Reading {
 
     /// The request that is read, where the prefix and the operands are there and no rule is broken.
     pub(crate) fn into_parsed(self) -> Result<Parsed, WordFault>
-        ensures { Answers
-            (request_with self.tool self.options self.operands (prefix_by self.whose self.prefix)) result }
+        ensures { Answers (request_with self.tool self.options self.operands
+            (prefix_by self.whose self.prefix)) result }
     {
         let Reading {
             alloc,

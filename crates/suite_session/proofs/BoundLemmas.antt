@@ -256,7 +256,8 @@ module _ (admits : Admission) (runner : Runner) (was past : Past)
   called-then next (Looking looking) journal made counts called =
       nears-then (state_call (Looking looking)) (grew-by was past runner.token _ _ made) next
       (Looking looking) refl refl (omega arith) counts
-      (led-then was past runner.token (Looking looking) next made counts.goes_on called.leads) called
+      (led-then was past runner.token (Looking looking) next made counts.goes_on called.leads)
+      called
   called-then next (Reading seen) journal made counts called =
       nears-then (state_call (Reading seen)) (grew-by was past runner.token _ _ made) next
       (Reading seen) refl refl (omega arith) counts
@@ -268,7 +269,8 @@ module _ (admits : Admission) (runner : Runner) (was past : Past)
   called-then next (Claiming judged) journal made counts called =
       nears-then (state_call (Claiming judged)) (grew-by was past runner.token _ _ made) next
       (Claiming judged) refl refl (omega arith) counts
-      (led-then was past runner.token (Claiming judged) next made counts.goes_on called.leads) called
+      (led-then was past runner.token (Claiming judged) next made counts.goes_on called.leads)
+      called
   called-then next (Confirming claimed) journal made counts called =
       let grew = grew-by was past runner.token (state_call (Confirming claimed)) _ made in
       record {

@@ -355,7 +355,8 @@ last-less old next none look =
     let last = none look in let due = look-due old look in omega (arith, last, due)
 
 -- which is so of an answer
-pub answers-less : (tool : Tool) (cause : Cause) (old state : State) → AnswersWith tool cause state →
+pub answers-less : (tool : Tool) (cause : Cause) (old state : State)
+    → AnswersWith tool cause state →
     LooksLess old state
 answers-less tool cause old (Answering answer) told =
     last-less old (Answering answer) (λ look. refl)

@@ -92,7 +92,8 @@ steps-to before now runner old new led made =
         stands = record {
           stands = turns.stands;
           came = came-on before.admits runner old new before.told now.told now.journal made.counts
-              made.turns.stages made.turns.looks (stands-free before runner old led.stands) made.turns.makes_one turns.grew
+              made.turns.stages made.turns.looks
+              (stands-free before runner old led.stands) made.turns.makes_one turns.grew
               (state-own before runner old led.stands) made.turns.remembers led.came;
         };
         grew = turns.grew;

@@ -107,7 +107,8 @@ installed_then staged (Some new) = text_then (Staged new.table) staged new.bytes
 
 -- where the intent is staged
 abbrev pub intent_then : Stager → Option StagedText
-intent_then stager = if nat_lt 0 (intent_left stager) then stager_text (append_intent stager) else None
+intent_then stager = if nat_lt 0 (intent_left stager) then stager_text (append_intent stager)
+    else None
 
 -- where the lock is freed
 abbrev pub freed_then : Option ℕ → Option StagedText
@@ -358,7 +359,8 @@ module _ (name_of : NewTable → Name) (bytes_of : NewTable → Bytes) (walker :
       begun_text name_of bytes_of staged (next_table walker)
       ≡ text_at (name_of next) (pieces_behind staged (bytes_of next))
   begun-at staged begun =
-      ap (λ (is : Bool). if is then table_text name_of bytes_of staged (next_table walker) else none)
+      ap (λ (is : Bool). if is then table_text name_of bytes_of staged (next_table walker)
+          else none)
       (some-staged staged begun)
       ∙ ap (table_text name_of bytes_of staged) is_next
 

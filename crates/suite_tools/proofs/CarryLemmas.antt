@@ -93,7 +93,8 @@ module _ (tool : Tool) (action : Action) (first old last : Files) (output : Outp
       × Decides tool first (outcome_of action first)
       (decision_by (changed_tables (table_of first) (table_of last)) output)
   carried-decides = by (outcome_of action first) refl
-      (subst (λ (files : Files). IsCarriedOut tool (outcome_of action files) files last (Ok output)) are
+      (subst (λ (files : Files). IsCarriedOut tool (outcome_of action files) files
+          last (Ok output)) are
       carried)
     where
       by :

@@ -148,7 +148,8 @@ module _ {R : Type 0} (format : Format R) where
       (All-weaker (λ cell. HoldsIn format
       (λ r. is_named format name r ≡ true → is_used places cell.place ≡ true) cell)
       (λ cell. has_named_in format name cell ≡ true → is_used places cell.place ≡ true)
-      (λ cell here has. reached-by format (is_named format name) places cell.place cell.texts here has) cells
+      (λ cell here has. 
+          reached-by format (is_named format name) places cell.place cell.texts here has) cells
       (there-weaker format (IsKeyed keys_of told)
       (λ place r. is_named format name r ≡ true → is_used places place ≡ true)
       (λ place r tells named.
