@@ -1,8 +1,6 @@
 -- Claim: fields behind the first colon are the others (`behind-cut`, and `behind-whole` where there
--- is no colon); and the third or fourth field of a record tells of it: the GID of a user
--- (`gid-fourth`), the members of a group (`members-fourth`), and the administrators and members in
--- gshadow (`administrators-third`). Way: a line has one cut into fields, that of
--- its record.
+-- is no colon); and the fourth field of a record tells of it: the GID of a user (`gid-fourth`), the
+-- members of a group (`members-fourth`). Way: a line has one cut into fields, that of its record.
 use Rattle.std.proofs.Common.{◌≡◌, ℕ, zero, suc, ◌+◌, ◌-◌, List, [], ◌∷◌, slice_get, refl, sym, ◌∙◌, ap, arith}
 use Rattle.std.specs.Prelude.{Some, unwrap_or}
 use Rattle.acct_text.specs.Bytes.{colon}
@@ -11,11 +9,10 @@ use Rattle.acct_text.proofs.Cut.{cut_at-only}
 use Rattle.acct_text.proofs.NumberLaws.{number-found}
 use Rattle.account_model.specs.declared.records.PasswdRecord.{PasswdRecord}
 use Rattle.account_model.specs.declared.records.GroupRecord.{GroupRecord}
-use Rattle.account_model.specs.declared.records.GshadowRecord.{GshadowRecord}
 use Rattle.account_model.specs.Faults.{field_at}
-use Rattle.account_model.specs.Records.{greatest_id, gshadow_format, group_format, passwd_format, read_id, read_names}
+use Rattle.account_model.specs.Records.{greatest_id, group_format, passwd_format, read_id, read_names}
 use Rattle.account_model.proofs.FieldReads.{names-found}
-use Rattle.account_model.proofs.ReadsLaws.{group-is, gshadow-is, passwd-is}
+use Rattle.account_model.proofs.ReadsLaws.{group-is, passwd-is}
 use Rattle.line_edits.specs.LineFields.{AreBehindFirst}
 
 -- the field at a place, counted from 0
@@ -69,12 +66,3 @@ members-fourth line group read =
     let is = group-is line group read in
     ap (λ fields. read_names (field_at 4 fields)) (cut_at-only colon line _ is.cut)
     ∙ names-found is.members group.members is.members_read
-
-module _ (line : List ℕ) (group : GshadowRecord)
-    (read : gshadow_format.read line ≡ Some group) where
-  -- the third field of a group in gshadow has the administrators
-  pub administrators-third : read_names (field_at 3 (fields_of line)) ≡ group.administrators
-  administrators-third =
-      let is = gshadow-is line group read in
-      ap (λ fields. read_names (field_at 3 fields)) (cut_at-only colon line _ is.cut)
-      ∙ names-found is.administrators group.administrators is.administrators_read

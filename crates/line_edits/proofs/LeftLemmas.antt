@@ -1,10 +1,9 @@
 -- Claim: a line that begins with another name isn't a record of the name (`other-name`), a list
 -- without a user stays without it (`without-unlisted`), and so does a group that the user doesn't join
--- (`left-group`, `left-gshadow`); so changes leave such lines. A record
--- that stays either way stays (`left-either`). Way: the name of a record is the first field
--- of its line.
+-- (`left-group`, `left-gshadow`); so changes leave such lines. Way: the name of a record is the first
+-- field of its line.
 use Rattle.std.proofs.Common.{◌≡◌, ℕ, true, false, Bool, List, [], ◌∷◌, refl, sym, ◌∙◌, ap}
-use Rattle.std.specs.Prelude.{◌||◌, not, bytes_eq, Some, if◌then◌else◌}
+use Rattle.std.specs.Prelude.{◌||◌, not, bytes_eq, Some}
 use Rattle.account_model.specs.Format.{Format, is_named}
 use Rattle.account_model.specs.declared.records.GroupRecord.{GroupRecord}
 use Rattle.account_model.specs.declared.records.GshadowRecord.{GshadowRecord}
@@ -37,12 +36,6 @@ pub other-name :
 other-name format text name r first other read =
     ap (λ found. bytes_eq found name) (sym (first text r read))
     ∙ isn't (bytes_eq (first_field text) name) other
-
--- a record that stays either way stays
-pub left-either :
-    {R : Type 0} (test : Bool) (new r : R) → new ≡ r → (if test then new else r) ∷ [] ≡ r ∷ []
-left-either true new r same = ap (λ now. now ∷ []) same
-left-either false new r same = refl
 
 -- neither of two tests
 pub neither : (one other : Bool) → (one || other) ≡ false → (one ≡ false) × (other ≡ false)

@@ -1,5 +1,4 @@
 pub mod ChangedLines
-pub mod OpenLemmas
 pub mod EditLists
 pub mod LeftLemmas
 pub mod NamingLemmas

@@ -18,7 +18,7 @@ use Rattle.line_edits.specs.declared.gshadow_changes.GshadowAct.TheVariants.{Set
 use Rattle.line_edits.specs.declared.gshadow_changes.GshadowChange.TheVariants.{All as AllGshadows}
 use Rattle.line_edits.specs.declared.memberships.Membership.{Membership}
 use Rattle.line_edits.specs.declared.memberships.UserGroups.TheVariants.{Also, Kept}
-use Rattle.line_edits.specs.declared.changed_names.ChangedNames.{ChangedNames}
+use Rattle.line_edits.specs.declared.edit.ChangedNames.{ChangedNames}
 use Rattle.line_edits.proofs.LeftLemmas.{neither}
 
 -- a record of another name than one

@@ -1,5 +1,4 @@
 pub mod SeenEdits
-pub mod OpenLines
 pub mod Touching
 pub mod GroupChanges
 pub mod GshadowChanges

@@ -6,7 +6,6 @@ ghost use Rattle.line_edits.specs.Naming.{AreMarksOf, Leaves, TouchesOnly, names
 ghost use Rattle.line_edits.specs.Rewriting.{IsRewritten};
 ghost use Rattle.line_edits.specs.SeenEdits.{records_in};
 
-use crate::ChangedNames;
 use acct_lines::TableRecord;
 use acct_tables::Marks;
 use acct_text::Bytes;
@@ -32,6 +31,15 @@ pub struct Rewritten {
     pub kept: Bytes,
     /// That of after.
     pub new: Bytes,
+}
+
+/// The names of the records that a change may touch.
+#[derive(Clone, Copy)]
+pub enum ChangedNames<'e> {
+    /// This one.
+    One(&'e [u8]),
+    /// These.
+    Each(&'e [Vec<u8>]),
 }
 
 /// One edit of a table of the records R, of which C tells what becomes.

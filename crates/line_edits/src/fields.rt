@@ -4,7 +4,6 @@ ghost use Rattle.acct_text.specs.Pieces.{fields_of};
 ghost use Rattle.account_model.specs.Faults.{field_at};
 ghost use Rattle.account_model.specs.Naming.{first_field as first_of};
 ghost use Rattle.line_edits.specs.LineFields.{AreBehindFirst};
-ghost use Rattle.line_edits.specs.Naming.{leaves_name};
 
 use acct_lines::{first_field, has_first_field};
 use acct_text::{Bytes, cut_once};
@@ -18,16 +17,6 @@ pub(crate) fn set_given(field: &mut Bytes, new: &Option<Bytes>) -> Result<(), Al
         *field = text.copy()?;
     }
     Ok(())
-}
-
-/// Whether a name field that gets this text, if any is given, leaves the name.
-pub fn leaves_name(new: &Option<Bytes>, name: &Bytes) -> bool
-    ensures { result ≡ leaves_name name.now new.now }
-{
-    match new {
-        Some(text) => text.as_slice() == name.as_slice(),
-        None => true,
-    }
 }
 
 /// Whether the line begins with another name.
