@@ -27,13 +27,15 @@ use Rattle.acct_tables.specs.Marks.{Holds, IsWithout, IsWithoutAll, marks_in}
 use Rattle.acct_tables.specs.declared.marks.Marks.{Marks}
 use Rattle.acct_tables.proofs.FieldMarks.{holds-primary, holds-self, joined-first, joined-rest}
 use Rattle.acct_tables.proofs.MarkedRecords.{unnamed}
-use Rattle.line_edits.specs.GroupChanges.{group_after}
-use Rattle.line_edits.specs.GshadowChanges.{gshadow_after}
-use Rattle.line_edits.specs.Memberships.{AreMarksIn, group_by, gshadow_by}
-use Rattle.line_edits.specs.Naming.{AreMarksOf}
+use Rattle.line_edits.specs.GroupChanges.{group_becomes}
+use Rattle.line_edits.specs.GshadowChanges.{gshadow_becomes, without_user}
+use Rattle.line_edits.specs.Memberships.{AreMarksIn}
+use Rattle.line_edits.specs.Naming.{AreMarksOf, TouchesOnly}
 use Rattle.line_edits.specs.PasswdChanges.{passwd_after, passwd_becomes}
-use Rattle.line_edits.specs.declared.group_changes.GroupAct.TheVariants.{RemoveMember}
-use Rattle.line_edits.specs.declared.gshadow_changes.GshadowAct.TheVariants.{RemoveUser}
+use Rattle.line_edits.specs.declared.group_changes.GroupAct.TheVariants.{RemoveMember, SetMembership as SetMembershipGroup}
+use Rattle.line_edits.specs.declared.group_changes.GroupChange.TheVariants.{All as AllGroups}
+use Rattle.line_edits.specs.declared.gshadow_changes.GshadowAct.TheVariants.{RemoveUser, SetMembership as SetMembershipGshadow}
+use Rattle.line_edits.specs.declared.gshadow_changes.GshadowChange.TheVariants.{All as AllGshadows}
 use Rattle.line_edits.specs.declared.memberships.Membership.{Membership}
 use Rattle.line_edits.specs.declared.passwd_changes.PasswdAct.{PasswdAct}
 use Rattle.line_edits.specs.declared.passwd_changes.PasswdChange.{PasswdChange}
@@ -82,6 +84,20 @@ unlisted name text names are without = elim (cases_Bool (is_listed name names)) 
   | inr none ↦ none
 ]
 
+-- a user isn't removed from a group in gshadow that doesn't list it
+pub left-unlisted :
+    (user : List ℕ) (group : GshadowRecord)
+    → is_listed user group.administrators ≡ false
+    → is_listed user group.members ≡ false
+    → without_user user group ∷ [] ≡ group ∷ []
+left-unlisted user group apart other =
+    ap (λ names. record group {
+      administrators = names;
+      members = without_name user group.members;
+    } ∷ []) (without-unlisted user group.administrators apart)
+    ∙ ap (λ names. record group { members = names } ∷ [])
+    (without-unlisted user group.members other)
+
 module _ (user line : List ℕ) (without : IsWithout user line) where
   module _ (group : GroupRecord) (read : group_format.read line ≡ Some group) where
     -- a line of group without the user doesn't list it
@@ -95,9 +111,9 @@ module _ (user line : List ℕ) (without : IsWithout user line) where
         (joined-rest user colon reads.gid (reads.members ∷ []) holds)))))
 
     -- the user isn't removed from it
-    pub left-member : group_after (RemoveMember user) group ≡ group
+    pub left-member : group_becomes (AllGroups (RemoveMember user)) group ≡ group ∷ []
     left-member =
-        ap (λ members. record group { members = members })
+        ap (λ members. record group { members = members } ∷ [])
         (without-unlisted user group.members unlisted-group)
 
   module _ (group : GshadowRecord) (read : gshadow_format.read line ≡ Some group) where
@@ -124,14 +140,8 @@ module _ (user line : List ℕ) (without : IsWithout user line) where
         (joined-rest user colon reads.administrators (reads.members ∷ []) holds)))))
 
     -- the user isn't removed from it
-    pub left-user : gshadow_after (RemoveUser user) group ≡ group
-    left-user =
-        ap (λ names. record group {
-          administrators = names;
-          members = without_name user group.members;
-        }) (without-unlisted user group.administrators unlisted-administrator)
-        ∙ ap (λ names. record group { members = names })
-        (without-unlisted user group.members unlisted-gshadow)
+    pub left-user : gshadow_becomes (AllGshadows (RemoveUser user)) group ≡ group ∷ []
+    left-user = left-unlisted user group unlisted-administrator unlisted-gshadow
 
 -- ---- Marks of changes
 
@@ -149,72 +159,48 @@ unlisted-name format first (name ∷ names) line r read without =
     (other-record format first name line r read without.0)
     ∙ unlisted-name format first names line r read without.1
 
--- a change that leaves records of other names has the name for its mark
+-- what touches records of some names alone has these for its marks
 pub named-marks :
     {R : Type 0} (format : Format R)
     → NamesFirst format
-    → (name : List ℕ) (marks : List (List ℕ)) (f : R → List R)
-    → marks ≡ name ∷ []
-    → ((r : R) → is_named format name r ≡ false → f r ≡ r ∷ [])
+    → (f : R → List R) (names marks : List (List ℕ))
+    → marks ≡ names
+    → TouchesOnly format f names
     → AreMarksOf format f marks
-named-marks format first name marks f is left = λ line without r read.
-    left r (other-record format first name line r read
-    (subst (λ found. IsWithoutAll found line) is without).0)
-
-module _ {R C : Type 0} (format : Format R) (first : NamesFirst format) (becomes : C → R → List R)
-    (name : List ℕ) (marks : List (List ℕ)) (is : marks ≡ name ∷ [])
-    (change named : C) (change_is : change ≡ named) where
-  -- an act with the records of a name has that for its mark
-  pub act-marks :
-      (after : R → R)
-      → ((r : R) → becomes named r ≡ (if is_named format name r then after r else r) ∷ [])
-      → AreMarksOf format (becomes change) marks
-  act-marks after acts =
-      named-marks format first name marks (becomes change) is
-      (λ r other. ap (λ change. becomes change r) change_is ∙ acts r
-      ∙ ap (λ named. (if named then after r else r) ∷ []) other)
-
-  -- and so has their removal
-  pub removal-marks :
-      ((r : R) → becomes named r ≡ (if is_named format name r then [] else r ∷ []))
-      → AreMarksOf format (becomes change) marks
-  removal-marks goes =
-      named-marks format first name marks (becomes change) is
-      (λ r other. ap (λ change. becomes change r) change_is ∙ goes r
-      ∙ ap (λ named. if named then [] else r ∷ []) other)
+named-marks format first f names marks is only = λ line without r read.
+    only r (unlisted-name format first names line r read
+    (subst (λ found. IsWithoutAll found line) is without))
 
 -- a group whose line is without the marks of a membership stays
 pub kept-group :
     (marks : Option Marks) (membership : Membership)
     → IfSome marks (AreMarksIn membership)
-    → IfSome marks (λ m. (line : List ℕ) → IsWithoutAll (marks_in m) line
-    → (group : GroupRecord) → group_format.read line ≡ Some group
-    → group_by membership group ≡ group)
+    → IfSome marks (λ m.
+    AreMarksOf group_format (group_becomes (AllGroups (SetMembershipGroup membership))) (marks_in m))
 kept-group None membership is = tt
 kept-group (Some marks) membership is = λ line without group read.
-    left-group membership group
+    ap (λ group. group ∷ []) (left-group membership group
     (sym (is.joined group.name)
     ∙ unlisted-name group_format group-names_first (map vec_items marks.others.now) line
     group read without.1)
     (unlisted-group membership.user line (subst (λ user. IsWithout user line) is.user without.0)
-    group read)
+    group read))
 
 -- and so does a record of gshadow
 pub kept-gshadow :
     (marks : Option Marks) (membership : Membership)
     → IfSome marks (AreMarksIn membership)
-    → IfSome marks (λ m. (line : List ℕ) → IsWithoutAll (marks_in m) line
-    → (group : GshadowRecord) → gshadow_format.read line ≡ Some group
-    → gshadow_by membership group ≡ group)
+    → IfSome marks (λ m.
+    AreMarksOf gshadow_format (gshadow_becomes (AllGshadows (SetMembershipGshadow membership))) (marks_in m))
 kept-gshadow None membership is = tt
 kept-gshadow (Some marks) membership is = λ line without group read.
     let user = subst (λ user. IsWithout user line) is.user without.0 in
-    left-gshadow membership group
+    ap (λ group. group ∷ []) (left-gshadow membership group
     (sym (is.joined group.name)
     ∙ unlisted-name gshadow_format gshadow-names_first (map vec_items marks.others.now) line
     group read without.1)
     (unlisted-administrator membership.user line user group read)
-    (unlisted-gshadow membership.user line user group read)
+    (unlisted-gshadow membership.user line user group read))
 
 -- a user whose line is without the text of a GID has another primary group
 other-primary :
@@ -239,13 +225,3 @@ primary-marks gid act change marks change_is is = λ line without user read.
     ∙ ap (λ same. (if same then passwd_after act user else user) ∷ [])
     (other-primary gid line user read
     (subst (λ found. IsWithoutAll found line) is without).0)
-
--- what leaves each record without some marks leaves it alone in its place
-pub alone :
-    {R : Type 0} (format : Format R) (f : R → R) (marks : Option Marks)
-    → IfSome marks (λ m. (line : List ℕ) → IsWithoutAll (marks_in m) line
-    → (r : R) → format.read line ≡ Some r → f r ≡ r)
-    → IfSome marks (λ m. AreMarksOf format (λ r. f r ∷ []) (marks_in m))
-alone format f None is = tt
-alone format f (Some marks) is = λ line without r read.
-    ap (λ s. s ∷ []) (is line without r read)

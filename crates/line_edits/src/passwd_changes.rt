@@ -4,8 +4,8 @@ ghost use Rattle.account_model.specs.Records.{passwd_format};
 ghost use Rattle.account_model.specs.declared.records.PasswdRecord.{PasswdRecord};
 ghost use Rattle.line_edits.specs.PasswdChanges.{passwd_after, with_user_fields};
 
-use crate::fields::{fourth_field, has_other_name, set_given};
-use crate::{Becoming, ChangedNames, EditedRecord, HashChange, PrimaryGroup};
+use crate::fields::{fourth_field, set_given};
+use crate::{Becoming, EditedRecord, HashChange, PrimaryGroup};
 use account_model::GREATEST_ID;
 use acct_lines::{PasswdRecord, TableRecord};
 use acct_tables::Marks;
@@ -94,27 +94,24 @@ impl EditedRecord for PasswdRecord {
         Ok(Becoming::Changes(self))
     }
 
-    fn leaves(change: &PasswdChange, line: &[u8]) -> bool {
+    fn only_name(change: &PasswdChange) -> Option<&[u8]> {
         match change {
-            PasswdChange::Named(name, _) => has_other_name(line, name.as_slice()),
-            PasswdChange::OfGroup(group, _) => !has_gid(line, group.gid()),
-            PasswdChange::Remove(name) => has_other_name(line, name.as_slice()),
-        }
-    }
-
-    fn marks(change: &PasswdChange) -> Option<Marks<'_>> {
-        match change {
-            PasswdChange::Named(name, _) => Some(Marks::one(name.as_slice())),
-            PasswdChange::OfGroup(group, _) => Some(Marks::one(group.digits())),
-            PasswdChange::Remove(name) => Some(Marks::one(name.as_slice())),
-        }
-    }
-
-    fn touched_names(change: &PasswdChange) -> Option<ChangedNames<'_>> {
-        match change {
-            PasswdChange::Named(name, _) => Some(ChangedNames::One(name.as_slice())),
-            PasswdChange::Remove(name) => Some(ChangedNames::One(name.as_slice())),
+            PasswdChange::Named(name, _) | PasswdChange::Remove(name) => Some(name.as_slice()),
             PasswdChange::OfGroup(..) => None,
+        }
+    }
+
+    fn other_marks(change: &PasswdChange) -> Option<Marks<'_>> {
+        match change {
+            PasswdChange::OfGroup(group, _) => Some(Marks::one(group.digits())),
+            _ => None,
+        }
+    }
+
+    fn leaves_fields(change: &PasswdChange, line: &[u8]) -> bool {
+        match change {
+            PasswdChange::OfGroup(group, _) => !has_gid(line, group.gid()),
+            _ => false,
         }
     }
 
