@@ -2,7 +2,7 @@
 -- without a user stays without it (`without-unlisted`), and so does a group that the user doesn't join
 -- (`left-group`, `left-gshadow`); so changes leave such lines. Way: the name of a record is the first
 -- field of its line.
-use Rattle.std.proofs.Common.{◌≡◌, ℕ, true, false, Bool, List, [], ◌∷◌, refl, sym, ◌∙◌, ap}
+use Rattle.std.proofs.Common.{◌≡◌, ℕ, true, false, Bool, List, [], ◌∷◌, refl, sym, ◌∙◌, ap, subst}
 use Rattle.std.specs.Prelude.{◌||◌, not, bytes_eq, Some}
 use Rattle.account_model.specs.Format.{Format, is_named}
 use Rattle.account_model.specs.declared.records.GroupRecord.{GroupRecord}
@@ -11,6 +11,7 @@ use Rattle.account_model.specs.Members.{renamed_in, without_name}
 use Rattle.account_model.specs.Text.{is_listed}
 use Rattle.account_model.proofs.RenamingLaws.{flipped, unlisted_stays}
 use Rattle.account_model.specs.Naming.{NamesFirst, first_field}
+use Rattle.line_edits.specs.Naming.{Leaves}
 use Rattle.line_edits.specs.Memberships.{group_by, gshadow_by, joins, members_by, members_with}
 use Rattle.line_edits.specs.declared.memberships.Membership.{Membership}
 use Rattle.line_edits.specs.declared.memberships.UserGroups.{UserGroups}
@@ -36,6 +37,17 @@ pub other-name :
 other-name format text name r first other read =
     ap (λ found. bytes_eq found name) (sym (first text r read))
     ∙ isn't (bytes_eq (first_field text) name) other
+
+-- what leaves the record of a line leaves the line
+pub leaves-shown :
+    {R : Type 0} (format : Format R) (f : R → List R) (line : List ℕ) (shown : R)
+    → format.read line ≡ Some shown
+    → f shown ≡ shown ∷ []
+    → Leaves format f line
+leaves-shown format f line shown reads left = λ r read.
+    let found : Some shown ≡ Some r = sym reads ∙ read in
+    let same : shown ≡ r = cc in
+    subst (λ r. f r ≡ r ∷ []) same left
 
 -- neither of two tests
 pub neither : (one other : Bool) → (one || other) ≡ false → (one ≡ false) × (other ≡ false)

@@ -5,7 +5,6 @@ pub mod NamingLemmas
 pub mod WrittenLines
 pub mod NameSets
 pub mod MarkLemmas
-pub mod FieldLemmas
 mod JoinedTexts
 pub mod NameRemovals
 pub mod TouchedEdits

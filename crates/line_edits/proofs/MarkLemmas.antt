@@ -28,7 +28,7 @@ use Rattle.acct_tables.specs.declared.marks.Marks.{Marks}
 use Rattle.acct_tables.proofs.FieldMarks.{holds-primary, holds-self, joined-first, joined-rest}
 use Rattle.acct_tables.proofs.MarkedRecords.{unnamed}
 use Rattle.line_edits.specs.GroupChanges.{group_becomes}
-use Rattle.line_edits.specs.GshadowChanges.{gshadow_becomes, without_user}
+use Rattle.line_edits.specs.GshadowChanges.{gshadow_becomes}
 use Rattle.line_edits.specs.Memberships.{AreMarksIn}
 use Rattle.line_edits.specs.Naming.{AreMarksOf, TouchesOnly}
 use Rattle.line_edits.specs.PasswdChanges.{passwd_after, passwd_becomes}
@@ -84,13 +84,22 @@ unlisted name text names are without = elim (cases_Bool (is_listed name names)) 
   | inr none ↦ none
 ]
 
--- a user isn't removed from a group in gshadow that doesn't list it
-pub left-unlisted :
+-- a user isn't removed from a group that doesn't list it
+pub left-unlisted-group :
+    (user : List ℕ) (group : GroupRecord)
+    → is_listed user group.members ≡ false
+    → group_becomes (AllGroups (RemoveMember user)) group ≡ group ∷ []
+left-unlisted-group user group other =
+    ap (λ members. record group { members = members } ∷ [])
+    (without-unlisted user group.members other)
+
+-- nor from one in gshadow
+pub left-unlisted-gshadow :
     (user : List ℕ) (group : GshadowRecord)
     → is_listed user group.administrators ≡ false
     → is_listed user group.members ≡ false
-    → without_user user group ∷ [] ≡ group ∷ []
-left-unlisted user group apart other =
+    → gshadow_becomes (AllGshadows (RemoveUser user)) group ≡ group ∷ []
+left-unlisted-gshadow user group apart other =
     ap (λ names. record group {
       administrators = names;
       members = without_name user group.members;
@@ -112,9 +121,7 @@ module _ (user line : List ℕ) (without : IsWithout user line) where
 
     -- the user isn't removed from it
     pub left-member : group_becomes (AllGroups (RemoveMember user)) group ≡ group ∷ []
-    left-member =
-        ap (λ members. record group { members = members } ∷ [])
-        (without-unlisted user group.members unlisted-group)
+    left-member = left-unlisted-group user group unlisted-group
 
   module _ (group : GshadowRecord) (read : gshadow_format.read line ≡ Some group) where
     -- a line of gshadow without the user doesn't list it as administrator
@@ -141,7 +148,7 @@ module _ (user line : List ℕ) (without : IsWithout user line) where
 
     -- the user isn't removed from it
     pub left-user : gshadow_becomes (AllGshadows (RemoveUser user)) group ≡ group ∷ []
-    left-user = left-unlisted user group unlisted-administrator unlisted-gshadow
+    left-user = left-unlisted-gshadow user group unlisted-administrator unlisted-gshadow
 
 -- ---- Marks of changes
 

@@ -10,5 +10,4 @@ pub mod Memberships
 pub mod Naming
 pub mod WrittenLines
 pub mod NameSets
-pub mod LineFields
 pub mod Rewriting

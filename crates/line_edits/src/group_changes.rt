@@ -1,15 +1,11 @@
 // What the tools do with records of group (group(5)).
 ghost use Rattle.std.specs.Prelude.{◌≡◌, Some, OnOk};
-ghost use Rattle.account_model.specs.Records.{group_format};
-ghost use Rattle.account_model.specs.Text.{is_listed};
-ghost use Rattle.account_model.specs.declared.records.GroupRecord.{GroupRecord};
 ghost use Rattle.line_edits.specs.GroupChanges.{group_after};
 
-use crate::fields::fourth_field;
 use crate::joined_texts::joined_group;
 use crate::lists::{add_name, remove_name};
 use crate::{Becoming, ChangedNames, EditedRecord, Membership, Rewritten};
-use acct_lines::{GroupRecord, TableRecord, first_field, lists};
+use acct_lines::{GroupLine, GroupRecord, TableRecord, lists};
 use acct_tables::Marks;
 use acct_text::{Bytes, Names};
 use std::alloc::{AllocError, Global};
@@ -112,28 +108,19 @@ impl EditedRecord for GroupRecord {
     }
 
     fn leaves_fields(change: &GroupChange, line: &[u8]) -> bool {
-        match change {
-            GroupChange::All(act) => match act {
-                GroupAct::RemoveMember(user) => !has_member(line, user.as_slice()),
-                GroupAct::SetMembership(membership) => {
-                    let user = membership.user.as_slice();
-                    !membership.joins(first_field(line)) && !has_member(line, user)
-                }
-                _ => false,
-            },
+        let (GroupChange::All(act), Ok(group)) = (change, GroupLine::read(line)) else {
+            return false;
+        };
+        match act {
+            GroupAct::RemoveMember(user) => !lists(group.members, user.as_slice()),
+            GroupAct::SetMembership(membership) => {
+                !membership.joins(group.name) && !lists(group.members, membership.user.as_slice())
+            }
             _ => false,
         }
     }
 
     ghost no_blank = { refl };
-}
-
-// Whether the line is a group that has the member.
-fn has_member(line: &[u8], user: &[u8]) -> bool
-    ensures { (group : GroupRecord) → group_format.read line.now ≡ Some group
-        → result ≡ is_listed user.now group.members }
-{
-    lists(fourth_field(line), user)
 }
 
 // Does the act with the record. At `AllocError` a user who joins may have the old name in it.

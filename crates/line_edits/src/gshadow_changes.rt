@@ -1,15 +1,13 @@
 // What the tools do with records of gshadow (gshadow(5)).
 ghost use Rattle.std.specs.Prelude.{◌≡◌, ◌||◌, Some, OnOk};
-ghost use Rattle.account_model.specs.declared.records.GshadowRecord.{GshadowRecord};
-ghost use Rattle.account_model.specs.Records.{gshadow_format};
 ghost use Rattle.account_model.specs.Text.{is_listed};
+ghost use Rattle.acct_lines.specs.Shown.{gshadow_shown};
 ghost use Rattle.line_edits.specs.GshadowChanges.{gshadow_after};
 
-use crate::fields::{fourth_field, third_field};
 use crate::joined_texts::joined_gshadow;
 use crate::lists::{add_name, remove_name};
 use crate::{Becoming, ChangedNames, EditedRecord, Membership, Rewritten};
-use acct_lines::{GshadowRecord, TableRecord, first_field, lists};
+use acct_lines::{GshadowLine, GshadowRecord, TableRecord, lists};
 use acct_tables::Marks;
 use acct_text::{Bytes, Names};
 use std::alloc::{AllocError, Global};
@@ -114,15 +112,14 @@ impl EditedRecord for GshadowRecord {
     }
 
     fn leaves_fields(change: &GshadowChange, line: &[u8]) -> bool {
-        match change {
-            GshadowChange::All(act) => match act {
-                GshadowAct::RemoveUser(user) => !has_user(line, user.as_slice()),
-                GshadowAct::SetMembership(membership) => {
-                    let user = membership.user.as_slice();
-                    !membership.joins(first_field(line)) && !has_user(line, user)
-                }
-                _ => false,
-            },
+        let (GshadowChange::All(act), Ok(group)) = (change, GshadowLine::read(line)) else {
+            return false;
+        };
+        match act {
+            GshadowAct::RemoveUser(user) => !has_user(&group, user.as_slice()),
+            GshadowAct::SetMembership(membership) => {
+                !membership.joins(group.name) && !has_user(&group, membership.user.as_slice())
+            }
             _ => false,
         }
     }
@@ -130,12 +127,12 @@ impl EditedRecord for GshadowRecord {
     ghost no_blank = { refl };
 }
 
-// Whether the line is a group that has the administrator or member.
-fn has_user(line: &[u8], user: &[u8]) -> bool
-    ensures { (group : GshadowRecord) → gshadow_format.read line.now ≡ Some group
-        → result ≡ (is_listed user.now group.administrators || is_listed user.now group.members) }
+// Whether the group has the administrator or member.
+fn has_user(group: &GshadowLine<'_>, user: &[u8]) -> bool
+    ensures { result ≡ (is_listed user.now (gshadow_shown group.now).administrators
+        || is_listed user.now (gshadow_shown group.now).members) }
 {
-    lists(third_field(line), user) || lists(fourth_field(line), user)
+    lists(group.administrators, user) || lists(group.members, user)
 }
 
 // Does the act with the record. At `AllocError` the user may have left one list alone.

@@ -1,37 +1,30 @@
-use Rattle.std.proofs.Common.{◌≡◌, ◌∙◌, false, [], ◌∷◌, ap, sym}
-use Rattle.account_model.specs.Members.{without_name}
+use Rattle.std.proofs.Common.{◌∙◌, [], ◌∷◌, ap, sym}
+use Rattle.account_model.specs.Records.{group_format}
 use Rattle.account_model.specs.Text.{is_listed}
-use Rattle.account_model.proofs.NamingLaws.{group-names_first}
+use Rattle.acct_lines.specs.Shown.{group_shown}
 use Rattle.line_edits.specs.GroupChanges.{group_becomes}
-use Rattle.line_edits.specs.Memberships.{joins}
 use Rattle.line_edits.specs.declared.group_changes.GroupChange.TheVariants.{All}
-use Rattle.line_edits.proofs.LeftLemmas.{isn't, left-group, without-unlisted}
+use Rattle.line_edits.proofs.LeftLemmas.{isn't, leaves-shown, left-group}
+use Rattle.line_edits.proofs.MarkLemmas.{left-unlisted-group}
 use Rattle.line_edits.proofs.group_changes.GroupRecordEditedRecord.leaves_fields.Goals as goal
 
 pub returns-in-RemoveMember : goal.returns-in-RemoveMember
-returns-in-RemoveMember c = λ no group read.
-    let told = c.in-RemoveMember in
-    let user = c.as_slice.result.now in
-    let other : is_listed user group.members ≡ false =
-    sym (c.has_member.ensures group read) ∙ isn't c.has_member.result no in
-    ap (λ change. group_becomes change group) (c.in-All.is ∙ ap All told.is)
-    ∙ ap (λ name. record group { members = without_name name group.members } ∷ [])
-    (sym c.as_slice.ensures)
-    ∙ ap (λ members. record group { members = members } ∷ [])
-    (without-unlisted user group.members other)
+returns-in-RemoveMember c = λ no.
+    let group = group_shown c.in-All-Ok.group in
+    let user = c.in-RemoveMember.user in
+    leaves-shown group_format (group_becomes c.args.change.now) c.args.line.now group c.in-All-Ok.ensures
+    (ap (λ change. group_becomes change group) (c.in-All-Ok.is-0 ∙ ap All c.in-RemoveMember.is)
+    ∙ left-unlisted-group user group
+    (ap (λ user. is_listed user group.members) (sym c.as_slice.ensures)
+    ∙ sym c.lists.ensures ∙ isn't c.lists.result no))
 
 pub returns-then-not-joins : goal.returns-then-not-joins
-returns-then-not-joins c = λ no group read.
-    let told = c.in-SetMembership in
-    let membership = told.membership in
-    let named : c.first_field.result.now ≡ group.name =
-    c.first_field.ensures ∙ group-names_first c.args.line.now group read in
-    let other : joins membership.groups group.name ≡ false =
-    ap (joins membership.groups) (sym named)
-    ∙ sym c.joins.ensures ∙ c.if-not-joins.true in
-    let unlisted : is_listed membership.user group.members ≡ false =
-    ap (λ user. is_listed user group.members) (sym c.as_slice-user.ensures)
-    ∙ sym (c.has_member-then-not-joins.ensures group read)
-    ∙ isn't c.has_member-then-not-joins.result no in
-    ap (λ change. group_becomes change group) (c.in-All.is ∙ ap All told.is)
-    ∙ ap (λ group. group ∷ []) (left-group membership group other unlisted)
+returns-then-not-joins c = λ no.
+    let group = group_shown c.in-All-Ok.group in
+    let membership = c.in-SetMembership.membership in
+    leaves-shown group_format (group_becomes c.args.change.now) c.args.line.now group c.in-All-Ok.ensures
+    (ap (λ change. group_becomes change group) (c.in-All-Ok.is-0 ∙ ap All c.in-SetMembership.is)
+    ∙ ap (λ group. group ∷ [])
+    (left-group membership group (sym c.joins.ensures ∙ c.if-not-joins.true)
+    (ap (λ user. is_listed user group.members) (sym c.as_slice-then-not-joins.ensures)
+    ∙ sym c.lists-then-not-joins.ensures ∙ isn't c.lists-then-not-joins.result no)))

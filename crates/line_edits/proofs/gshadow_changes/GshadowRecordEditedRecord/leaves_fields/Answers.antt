@@ -1,38 +1,37 @@
-use Rattle.std.proofs.Common.{◌≡◌, ◌∙◌, false, [], ◌∷◌, ap, sym}
+use Rattle.std.proofs.Common.{◌∙◌, [], ◌∷◌, ap, sym}
 use Rattle.std.specs.Prelude.{◌||◌}
+use Rattle.account_model.specs.Records.{gshadow_format}
 use Rattle.account_model.specs.Text.{is_listed}
-use Rattle.account_model.proofs.NamingLaws.{gshadow-names_first}
-use Rattle.line_edits.specs.GshadowChanges.{gshadow_becomes, without_user}
-use Rattle.line_edits.specs.Memberships.{joins}
+use Rattle.acct_lines.specs.Shown.{gshadow_shown}
+use Rattle.line_edits.specs.GshadowChanges.{gshadow_becomes}
 use Rattle.line_edits.specs.declared.gshadow_changes.GshadowChange.TheVariants.{All}
-use Rattle.line_edits.proofs.LeftLemmas.{isn't, left-gshadow, neither}
-use Rattle.line_edits.proofs.MarkLemmas.{left-unlisted}
+use Rattle.line_edits.proofs.LeftLemmas.{isn't, leaves-shown, left-gshadow, neither}
+use Rattle.line_edits.proofs.MarkLemmas.{left-unlisted-gshadow}
 use Rattle.line_edits.proofs.gshadow_changes.GshadowRecordEditedRecord.leaves_fields.Goals as goal
 
 pub returns-in-RemoveUser : goal.returns-in-RemoveUser
-returns-in-RemoveUser c = λ no group read.
-    let told = c.in-RemoveUser in
-    let user = c.as_slice.result.now in
+returns-in-RemoveUser c = λ no.
+    let group = gshadow_shown c.in-All-Ok.group in
+    let user = c.in-RemoveUser.user in
     let both = neither (is_listed user group.administrators) (is_listed user group.members)
-    (sym (c.has_user.ensures group read) ∙ isn't c.has_user.result no) in
-    ap (λ change. gshadow_becomes change group) (c.in-All.is ∙ ap All told.is)
-    ∙ ap (λ name. without_user name group ∷ []) (sym c.as_slice.ensures)
-    ∙ left-unlisted user group both.0 both.1
+    (ap (λ user. is_listed user group.administrators || is_listed user group.members)
+    (sym c.as_slice.ensures) ∙ sym c.has_user.ensures ∙ isn't c.has_user.result no) in
+    leaves-shown gshadow_format (gshadow_becomes c.args.change.now) c.args.line.now group
+    c.in-All-Ok.ensures
+    (ap (λ change. gshadow_becomes change group) (c.in-All-Ok.is-0 ∙ ap All c.in-RemoveUser.is)
+    ∙ left-unlisted-gshadow user group both.0 both.1)
 
 pub returns-then-not-joins : goal.returns-then-not-joins
-returns-then-not-joins c = λ no group read.
-    let told = c.in-SetMembership in
-    let membership = told.membership in
-    let named : c.first_field.result.now ≡ group.name =
-    c.first_field.ensures ∙ gshadow-names_first c.args.line.now group read in
-    let other : joins membership.groups group.name ≡ false =
-    ap (joins membership.groups) (sym named)
-    ∙ sym c.joins.ensures ∙ c.if-not-joins.true in
-    let both = neither (is_listed membership.user group.administrators)
-    (is_listed membership.user group.members)
+returns-then-not-joins c = λ no.
+    let group = gshadow_shown c.in-All-Ok.group in
+    let membership = c.in-SetMembership.membership in
+    let user = membership.user in
+    let both = neither (is_listed user group.administrators) (is_listed user group.members)
     (ap (λ user. is_listed user group.administrators || is_listed user group.members)
-    (sym c.as_slice-user.ensures)
-    ∙ sym (c.has_user-then-not-joins.ensures group read)
-    ∙ isn't c.has_user-then-not-joins.result no) in
-    ap (λ change. gshadow_becomes change group) (c.in-All.is ∙ ap All told.is)
-    ∙ ap (λ group. group ∷ []) (left-gshadow membership group other both.0 both.1)
+    (sym c.as_slice-then-not-joins.ensures)
+    ∙ sym c.has_user-then-not-joins.ensures ∙ isn't c.has_user-then-not-joins.result no) in
+    leaves-shown gshadow_format (gshadow_becomes c.args.change.now) c.args.line.now group
+    c.in-All-Ok.ensures
+    (ap (λ change. gshadow_becomes change group) (c.in-All-Ok.is-0 ∙ ap All c.in-SetMembership.is)
+    ∙ ap (λ group. group ∷ []) (left-gshadow membership group
+    (sym c.joins.ensures ∙ c.if-not-joins.true) both.0 both.1))
