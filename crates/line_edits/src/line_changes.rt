@@ -1,5 +1,5 @@
 // What becomes of the lines of a table's file by a change: those that it leaves are copied unread.
-ghost use Rattle.std.specs.Prelude.{◌≡◌, ◌++◌, [], ◌∷◌, Some, map, IfOk, OnOk};
+ghost use Rattle.std.specs.Prelude.{◌≡◌, ◌++◌, [], ◌∷◌, Some, IfOk, OnOk};
 ghost use Rattle.acct_text.specs.Bytes.{newline};
 ghost use Rattle.acct_text.specs.Lines.{file_bytes, line_bytes, lines_of};
 ghost use Rattle.acct_text.specs.Pieces.{Lacks};
@@ -71,7 +71,10 @@ fn push_becoming<R: EditedRecord + Drop>(
         Becoming::Stays => line.push_to(made),
         Becoming::Changes(new) => push_instead(alloc, made, line, kept.as_slice(), &new),
         Becoming::Goes => Ok(()),
-        Becoming::Splits(first, second) => push_two(alloc, made, &first, &second),
+        Becoming::Splits(first, second) => {
+            push_new(alloc, made, &first)?;
+            push_new(alloc, made, &second)
+        }
     }
 }
 
@@ -98,22 +101,6 @@ fn push_instead<R: EditedRecord + Drop>(
         ended: line.ended,
     };
     changed.push_to(made)
-}
-
-// Adds the lines of two new records, each with an end.
-fn push_two<R: EditedRecord + Drop>(
-    alloc: Global,
-    made: &mut Bytes,
-    first: &R,
-    second: &R,
-) -> Result<(), AllocError>
-    requires first { IsWritten R.format first.now }
-    requires second { IsWritten R.format second.now }
-    ensures { OnOk result (made.new ≡ made.old ++ file_bytes
-        (map (printed_line R.format) (first.now ∷ second.now ∷ []))) }
-{
-    push_new(alloc, made, first)?;
-    push_new(alloc, made, second)
 }
 
 // Adds the line of a new record, with an end.
