@@ -1,9 +1,9 @@
--- Claim: a record whose line is without a name doesn't have it (`other-record`, `unlisted-name`), and
--- a group whose line is without a user doesn't list it (`unlisted-group`, `unlisted-gshadow`), so
--- acts that take the user from a list leave the group, and those that rename it or let it join other
--- groups (`kept-group`, `kept-gshadow`). A user whose line is without the text of a GID has another
--- primary group (`primary-marks`). Way: the line of a record has its fields, and a field with names has
--- each of these.
+-- Claim: a record whose line is without a name doesn't have it (`other-record`, `unlisted-name`), so the
+-- names that a change touches are its marks (`named-marks`). A group whose line is without a user doesn't
+-- list it (`unlisted-group`, `unlisted-gshadow`), so acts that take the user from a list leave the group,
+-- and those that rename it or let it join other groups (`kept-group`, `kept-gshadow`). A user whose line
+-- is without the text of a GID has another primary group (`primary-marks`). Way: the line of a record
+-- has its fields, and a field with names has each of these.
 use Rattle.std.proofs.Common.{◌≡◌, ◌∙◌, ℕ, true, false, inl, inr, List, [], ◌∷◌, refl, sym, ap, subst}
 use Rattle.std.specs.Prelude.{◌==◌, ◌||◌, bytes_eq, map, IfSome, Option, Some, None, if◌then◌else◌}
 use Rattle.std.specs.Fmt.{decimal}

@@ -1,6 +1,6 @@
--- Claim: a change of the records of a name touches these alone (`touches-name`). A
--- membership touches only the groups that the user joins where it leaves none and keeps its name
--- (`joined-group`, `joined-gshadow`). Way: act by act.
+-- Claim: a change of the records of a name touches these alone (`touches-name`). A membership touches
+-- only the groups that the user joins where it leaves none and keeps its name (`joined-group`,
+-- `joined-gshadow`). Way: act by act.
 use Rattle.std.proofs.Common.{◌≡◌, ◌∙◌, ℕ, Bool, true, false, List, [], ◌∷◌, refl, sym, ap, inl, inr, ◌⊎◌, if◌then◌else◌}
 use Rattle.std.specs.Prelude.{◌&&◌, not, bytes_eq, IfSome, Option, Some, None}
 use Rattle.std.proofs.lemmas.Slice.Eq.{bytes_eq-Decides}
