@@ -31,14 +31,6 @@ module _ {R : Type 0} (format : Format R) where
   stays line r true is = refl
   stays line r false is = absurd cc
 
-  -- one line is put, or stays where it is the same record
-  pub sets :
-      (line : Line) (s : R) (same : Bool)
-      → (if same then line ∷ [] else record line { text = format.print s } ∷ [])
-      ≡ (if same then line else record line { text = format.print s }) ∷ []
-  sets line s true = refl
-  sets line s false = refl
-
   -- records that lines hold are the same where they print as the same text
   pub same-printed :
       (old new : R)

@@ -1,6 +1,6 @@
 -- Claim: what is asked of all edits holds of the one at a place (`edit-at`), so each edit of a list may
 -- be carried out in its turn; and edits may be carried out up to a place and then from there
--- (`edited-apart`), also over the text between (`once-made`).
+-- (`edited-apart`).
 use Rattle.std.proofs.Common.{◌≡◌, ◌==◌, ℕ, ◌+◌, ◌<◌, true, false, List, [], ◌∷◌, ◌++◌, length, take, drop, get_or, zero, suc, refl, sym, ◌∙◌, ap, subst, arith}
 use Rattle.std.specs.Prelude.{None}
 use Rattle.std.specs.List.{AllByRecursion}
@@ -13,8 +13,6 @@ use Rattle.account_model.specs.Edits as model
 use Rattle.account_model.specs.Format.{Format}
 use Rattle.account_model.specs.RecordEdits.{IsWrittenEdit}
 use Rattle.account_model.proofs.EditLines.{edited-lines}
-use Rattle.acct_tables.specs.SeenLines.{AreOfFile}
-use Rattle.acct_tables.proofs.EditedFiles.{edit-found}
 use Rattle.line_edits.specs.declared.edit.Edit.{Edit}
 use Rattle.line_edits.specs.SeenEdits.{seen_edit, seen_edits}
 
@@ -109,19 +107,3 @@ module _ {R C : Type 0} (becomes : C → R → List R) where
       (lines_of-only (file_bytes half) half (edited-lines format none front text
       (edits-up_to (IsWrittenEdit format) edits place written)))
       ∙ in-two format edits place (lines_of text)
-
--- ---- Lines of a file
-
-module _ {R : Type 0} (format : Format R) (no_blank : format.read [] ≡ None) where
-  -- what an edit makes of their text has the lines that it makes of them
-  pub once-made :
-      (edit : model.Edit R) (lines : List Line)
-      → AreOfFile lines
-      → IsWrittenEdit format edit
-      → (text made : List ℕ)
-      → text ≡ file_bytes lines
-      → made ≡ file_bytes (edited format (lines_of text) edit)
-      → lines_of made ≡ edited format lines edit
-  once-made edit lines of_file written text made is made_is =
-      edit-found format no_blank edit written text made made_is
-      ∙ ap (λ found. edited format found edit) (ap lines_of is ∙ of_file)

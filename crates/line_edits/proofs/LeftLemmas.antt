@@ -1,17 +1,15 @@
--- Claim: a line that begins with another name isn't a record of the name (`other-name`), a list
--- without a user stays without it (`without-unlisted`), and so does a group that the user doesn't join
--- (`left-group`, `left-gshadow`); so changes leave such lines. A record
--- that stays either way stays (`left-either`). Way: the name of a record is the first field
--- of its line.
-use Rattle.std.proofs.Common.{◌≡◌, ℕ, true, false, Bool, List, [], ◌∷◌, refl, sym, ◌∙◌, ap}
-use Rattle.std.specs.Prelude.{◌||◌, not, bytes_eq, Some, if◌then◌else◌}
-use Rattle.account_model.specs.Format.{Format, is_named}
+-- Claim: what leaves the record that a line shows leaves the line (`leaves-shown`). A list without a user
+-- stays without it (`without-unlisted`), and so does a group that the user doesn't join (`left-group`,
+-- `left-gshadow`). Way: list by list.
+use Rattle.std.proofs.Common.{◌≡◌, ℕ, true, false, Bool, List, [], ◌∷◌, refl, sym, ◌∙◌, ap, subst}
+use Rattle.std.specs.Prelude.{◌||◌, not, bytes_eq, Some}
+use Rattle.account_model.specs.Format.{Format}
 use Rattle.account_model.specs.declared.records.GroupRecord.{GroupRecord}
 use Rattle.account_model.specs.declared.records.GshadowRecord.{GshadowRecord}
 use Rattle.account_model.specs.Members.{renamed_in, without_name}
 use Rattle.account_model.specs.Text.{is_listed}
 use Rattle.account_model.proofs.RenamingLaws.{flipped, unlisted_stays}
-use Rattle.account_model.specs.Naming.{NamesFirst, first_field}
+use Rattle.line_edits.specs.Naming.{LeavesIt}
 use Rattle.line_edits.specs.Memberships.{group_by, gshadow_by, joins, members_by, members_with}
 use Rattle.line_edits.specs.declared.memberships.Membership.{Membership}
 use Rattle.line_edits.specs.declared.memberships.UserGroups.{UserGroups}
@@ -27,22 +25,16 @@ pub so : (test : Bool) → not test ≡ false → test ≡ true
 so true is = refl
 so false is = absurd cc
 
--- a line that begins with another name isn't a record of the name
-pub other-name :
-    {R : Type 0} (format : Format R) (text name : List ℕ) (r : R)
-    → NamesFirst format
-    → not (bytes_eq (first_field text) name) ≡ true
-    → format.read text ≡ Some r
-    → is_named format name r ≡ false
-other-name format text name r first other read =
-    ap (λ found. bytes_eq found name) (sym (first text r read))
-    ∙ isn't (bytes_eq (first_field text) name) other
-
--- a record that stays either way stays
-pub left-either :
-    {R : Type 0} (test : Bool) (new r : R) → new ≡ r → (if test then new else r) ∷ [] ≡ r ∷ []
-left-either true new r same = ap (λ now. now ∷ []) same
-left-either false new r same = refl
+-- what leaves the record of a line leaves the line
+pub leaves-shown :
+    {R : Type 0} (format : Format R) (f : R → List R) (line : List ℕ) (shown : R)
+    → format.read line ≡ Some shown
+    → f shown ≡ shown ∷ []
+    → LeavesIt format f line
+leaves-shown format f line shown reads left = λ r read.
+    let found : Some shown ≡ Some r = sym reads ∙ read in
+    let same : shown ≡ r = cc in
+    subst (λ r. f r ≡ r ∷ []) same left
 
 -- neither of two tests
 pub neither : (one other : Bool) → (one || other) ≡ false → (one ≡ false) × (other ≡ false)

@@ -1,9 +1,9 @@
--- Claim: a record whose line is without a name doesn't have it (`other-record`, `unlisted-name`), and
--- a group whose line is without a user doesn't list it (`unlisted-group`, `unlisted-gshadow`), so
--- acts that take the user from a list leave the group, and those that rename it or let it join other
--- groups (`kept-group`, `kept-gshadow`). A user whose line is without the text of a GID has another
--- primary group (`primary-marks`). Way: the line of a record has its fields, and a field with names has
--- each of these.
+-- Claim: a record whose line is without a name doesn't have it (`other-record`, `unlisted-name`), so the
+-- names that a change touches are its marks (`named-marks`). A group whose line is without a user doesn't
+-- list it (`unlisted-group`, `unlisted-gshadow`), so acts that take the user from a list leave the group,
+-- and those that rename it or let it join other groups (`kept-group`, `kept-gshadow`). A user whose line
+-- is without the text of a GID has another primary group (`primary-marks`). Way: the line of a record
+-- has its fields, and a field with names has each of these.
 use Rattle.std.proofs.Common.{◌≡◌, ◌∙◌, ℕ, true, false, inl, inr, List, [], ◌∷◌, refl, sym, ap, subst}
 use Rattle.std.specs.Prelude.{◌==◌, ◌||◌, bytes_eq, map, IfSome, Option, Some, None, if◌then◌else◌}
 use Rattle.std.specs.Fmt.{decimal}
@@ -23,17 +23,19 @@ use Rattle.account_model.specs.declared.records.PasswdRecord.{PasswdRecord}
 use Rattle.account_model.proofs.NamingLaws.{group-names_first, gshadow-names_first}
 use Rattle.account_model.proofs.ReadsLaws.{group-is, gshadow-is}
 use Rattle.account_model.specs.Members.{without_name}
-use Rattle.acct_tables.specs.Marks.{HoldsMark, IsWithout, IsWithoutAll, marks_in}
+use Rattle.acct_tables.specs.Marks.{Holds, IsWithout, IsWithoutAll, marks_in}
 use Rattle.acct_tables.specs.declared.marks.Marks.{Marks}
 use Rattle.acct_tables.proofs.FieldMarks.{holds-primary, holds-self, joined-first, joined-rest}
 use Rattle.acct_tables.proofs.MarkedRecords.{unnamed}
-use Rattle.line_edits.specs.GroupChanges.{group_after}
-use Rattle.line_edits.specs.GshadowChanges.{gshadow_after}
-use Rattle.line_edits.specs.Memberships.{AreMarksIn, group_by, gshadow_by}
-use Rattle.line_edits.specs.Naming.{AreMarksOf}
+use Rattle.line_edits.specs.GroupChanges.{group_becomes}
+use Rattle.line_edits.specs.GshadowChanges.{gshadow_becomes}
+use Rattle.line_edits.specs.Memberships.{AreMarksIn}
+use Rattle.line_edits.specs.Naming.{AreMarksOf, TouchesOnly}
 use Rattle.line_edits.specs.PasswdChanges.{passwd_after, passwd_becomes}
-use Rattle.line_edits.specs.declared.group_changes.GroupAct.TheVariants.{RemoveMember}
-use Rattle.line_edits.specs.declared.gshadow_changes.GshadowAct.TheVariants.{RemoveUser}
+use Rattle.line_edits.specs.declared.group_changes.GroupAct.TheVariants.{RemoveMember, SetMembership as SetMembershipGroup}
+use Rattle.line_edits.specs.declared.group_changes.GroupChange.TheVariants.{All as AllGroups}
+use Rattle.line_edits.specs.declared.gshadow_changes.GshadowAct.TheVariants.{RemoveUser, SetMembership as SetMembershipGshadow}
+use Rattle.line_edits.specs.declared.gshadow_changes.GshadowChange.TheVariants.{All as AllGshadows}
 use Rattle.line_edits.specs.declared.memberships.Membership.{Membership}
 use Rattle.line_edits.specs.declared.passwd_changes.PasswdAct.{PasswdAct}
 use Rattle.line_edits.specs.declared.passwd_changes.PasswdChange.{PasswdChange}
@@ -58,14 +60,14 @@ other-record format first name line r read without =
 listed-holds :
     (name : List ℕ) (pieces : List (List ℕ))
     → is_listed name (nonempty pieces) ≡ true
-    → HoldsMark name (join_with_byte comma pieces)
+    → Holds name (join_with_byte comma pieces)
 listed-holds name [] listed = absurd cc
 listed-holds name ([] ∷ rest) listed =
     joined-rest name comma [] rest (listed-holds name rest listed)
 listed-holds name ((byte ∷ piece) ∷ rest) listed =
     elim (cases_Bool (bytes_eq name (byte ∷ piece))) [
       | inl same ↦ joined-first name comma (byte ∷ piece) rest
-          (subst (HoldsMark name) ((bytes_eq-Decides name (byte ∷ piece)).0 same) (holds-self name))
+          (subst (Holds name) ((bytes_eq-Decides name (byte ∷ piece)).0 same) (holds-self name))
       | inr other ↦ joined-rest name comma (byte ∷ piece) rest (listed-holds name rest
           (sym (ap (λ test. test || is_listed name (nonempty rest)) other) ∙ listed))
     ]
@@ -77,10 +79,33 @@ unlisted :
     → IsWithout name text
     → is_listed name names ≡ false
 unlisted name text names are without = elim (cases_Bool (is_listed name names)) [
-  | inl listed ↦ absurd (without (subst (HoldsMark name) are.cut.joined
+  | inl listed ↦ absurd (without (subst (Holds name) are.cut.joined
       (listed-holds name are.pieces (sym (ap (is_listed name) are.dropped) ∙ listed))))
   | inr none ↦ none
 ]
+
+-- a user isn't removed from a group that doesn't list it
+pub left-unlisted-group :
+    (user : List ℕ) (group : GroupRecord)
+    → is_listed user group.members ≡ false
+    → group_becomes (AllGroups (RemoveMember user)) group ≡ group ∷ []
+left-unlisted-group user group other =
+    ap (λ members. record group { members = members } ∷ [])
+    (without-unlisted user group.members other)
+
+-- nor from one in gshadow
+pub left-unlisted-gshadow :
+    (user : List ℕ) (group : GshadowRecord)
+    → is_listed user group.administrators ≡ false
+    → is_listed user group.members ≡ false
+    → gshadow_becomes (AllGshadows (RemoveUser user)) group ≡ group ∷ []
+left-unlisted-gshadow user group apart other =
+    ap (λ names. record group {
+      administrators = names;
+      members = without_name user group.members;
+    } ∷ []) (without-unlisted user group.administrators apart)
+    ∙ ap (λ names. record group { members = names } ∷ [])
+    (without-unlisted user group.members other)
 
 module _ (user line : List ℕ) (without : IsWithout user line) where
   module _ (group : GroupRecord) (read : group_format.read line ≡ Some group) where
@@ -89,16 +114,14 @@ module _ (user line : List ℕ) (without : IsWithout user line) where
     unlisted-group =
         let reads = group-is line group read in
         unlisted user reads.members group.members reads.members_read
-        (λ holds. without (subst (HoldsMark user) reads.cut.joined
+        (λ holds. without (subst (Holds user) reads.cut.joined
         (joined-rest user colon group.name (group.password ∷ reads.gid ∷ reads.members ∷ [])
         (joined-rest user colon group.password (reads.gid ∷ reads.members ∷ [])
         (joined-rest user colon reads.gid (reads.members ∷ []) holds)))))
 
     -- the user isn't removed from it
-    pub left-member : group_after (RemoveMember user) group ≡ group
-    left-member =
-        ap (λ members. record group { members = members })
-        (without-unlisted user group.members unlisted-group)
+    pub left-member : group_becomes (AllGroups (RemoveMember user)) group ≡ group ∷ []
+    left-member = left-unlisted-group user group unlisted-group
 
   module _ (group : GshadowRecord) (read : gshadow_format.read line ≡ Some group) where
     -- a line of gshadow without the user doesn't list it as administrator
@@ -106,7 +129,7 @@ module _ (user line : List ℕ) (without : IsWithout user line) where
     unlisted-administrator =
         let reads = gshadow-is line group read in
         unlisted user reads.administrators group.administrators reads.administrators_read
-        (λ holds. without (subst (HoldsMark user) reads.cut.joined
+        (λ holds. without (subst (Holds user) reads.cut.joined
         (joined-rest user colon group.name
         (group.password ∷ reads.administrators ∷ reads.members ∷ [])
         (joined-rest user colon group.password (reads.administrators ∷ reads.members ∷ [])
@@ -117,21 +140,15 @@ module _ (user line : List ℕ) (without : IsWithout user line) where
     unlisted-gshadow =
         let reads = gshadow-is line group read in
         unlisted user reads.members group.members reads.members_read
-        (λ holds. without (subst (HoldsMark user) reads.cut.joined
+        (λ holds. without (subst (Holds user) reads.cut.joined
         (joined-rest user colon group.name
         (group.password ∷ reads.administrators ∷ reads.members ∷ [])
         (joined-rest user colon group.password (reads.administrators ∷ reads.members ∷ [])
         (joined-rest user colon reads.administrators (reads.members ∷ []) holds)))))
 
     -- the user isn't removed from it
-    pub left-user : gshadow_after (RemoveUser user) group ≡ group
-    left-user =
-        ap (λ names. record group {
-          administrators = names;
-          members = without_name user group.members;
-        }) (without-unlisted user group.administrators unlisted-administrator)
-        ∙ ap (λ names. record group { members = names })
-        (without-unlisted user group.members unlisted-gshadow)
+    pub left-user : gshadow_becomes (AllGshadows (RemoveUser user)) group ≡ group ∷ []
+    left-user = left-unlisted-gshadow user group unlisted-administrator unlisted-gshadow
 
 -- ---- Marks of changes
 
@@ -149,72 +166,50 @@ unlisted-name format first (name ∷ names) line r read without =
     (other-record format first name line r read without.0)
     ∙ unlisted-name format first names line r read without.1
 
--- a change that leaves records of other names has the name for its mark
+-- what touches records of some names alone has these for its marks
 pub named-marks :
     {R : Type 0} (format : Format R)
     → NamesFirst format
-    → (name : List ℕ) (marks : List (List ℕ)) (f : R → List R)
-    → marks ≡ name ∷ []
-    → ((r : R) → is_named format name r ≡ false → f r ≡ r ∷ [])
+    → (f : R → List R) (names marks : List (List ℕ))
+    → marks ≡ names
+    → TouchesOnly format f names
     → AreMarksOf format f marks
-named-marks format first name marks f is left = λ line without r read.
-    left r (other-record format first name line r read
-    (subst (λ found. IsWithoutAll found line) is without).0)
-
-module _ {R C : Type 0} (format : Format R) (first : NamesFirst format) (becomes : C → R → List R)
-    (name : List ℕ) (marks : List (List ℕ)) (is : marks ≡ name ∷ [])
-    (change named : C) (change_is : change ≡ named) where
-  -- an act with the records of a name has that for its mark
-  pub act-marks :
-      (after : R → R)
-      → ((r : R) → becomes named r ≡ (if is_named format name r then after r else r) ∷ [])
-      → AreMarksOf format (becomes change) marks
-  act-marks after acts =
-      named-marks format first name marks (becomes change) is
-      (λ r other. ap (λ change. becomes change r) change_is ∙ acts r
-      ∙ ap (λ named. (if named then after r else r) ∷ []) other)
-
-  -- and so has their removal
-  pub removal-marks :
-      ((r : R) → becomes named r ≡ (if is_named format name r then [] else r ∷ []))
-      → AreMarksOf format (becomes change) marks
-  removal-marks goes =
-      named-marks format first name marks (becomes change) is
-      (λ r other. ap (λ change. becomes change r) change_is ∙ goes r
-      ∙ ap (λ named. if named then [] else r ∷ []) other)
+named-marks format first f names marks is only = λ line without r read.
+    only r (unlisted-name format first names line r read
+    (subst (λ found. IsWithoutAll found line) is without))
 
 -- a group whose line is without the marks of a membership stays
 pub kept-group :
     (marks : Option Marks) (membership : Membership)
     → IfSome marks (AreMarksIn membership)
-    → IfSome marks (λ m. (line : List ℕ) → IsWithoutAll (marks_in m) line
-    → (group : GroupRecord) → group_format.read line ≡ Some group
-    → group_by membership group ≡ group)
+    → IfSome marks (λ m.
+    AreMarksOf group_format (group_becomes (AllGroups (SetMembershipGroup membership)))
+    (marks_in m))
 kept-group None membership is = tt
 kept-group (Some marks) membership is = λ line without group read.
-    left-group membership group
+    ap (λ group. group ∷ []) (left-group membership group
     (sym (is.joined group.name)
     ∙ unlisted-name group_format group-names_first (map vec_items marks.others.now) line
     group read without.1)
     (unlisted-group membership.user line (subst (λ user. IsWithout user line) is.user without.0)
-    group read)
+    group read))
 
 -- and so does a record of gshadow
 pub kept-gshadow :
     (marks : Option Marks) (membership : Membership)
     → IfSome marks (AreMarksIn membership)
-    → IfSome marks (λ m. (line : List ℕ) → IsWithoutAll (marks_in m) line
-    → (group : GshadowRecord) → gshadow_format.read line ≡ Some group
-    → gshadow_by membership group ≡ group)
+    → IfSome marks (λ m.
+    AreMarksOf gshadow_format (gshadow_becomes (AllGshadows (SetMembershipGshadow membership)))
+    (marks_in m))
 kept-gshadow None membership is = tt
 kept-gshadow (Some marks) membership is = λ line without group read.
     let user = subst (λ user. IsWithout user line) is.user without.0 in
-    left-gshadow membership group
+    ap (λ group. group ∷ []) (left-gshadow membership group
     (sym (is.joined group.name)
     ∙ unlisted-name gshadow_format gshadow-names_first (map vec_items marks.others.now) line
     group read without.1)
     (unlisted-administrator membership.user line user group read)
-    (unlisted-gshadow membership.user line user group read)
+    (unlisted-gshadow membership.user line user group read))
 
 -- a user whose line is without the text of a GID has another primary group
 other-primary :
@@ -223,7 +218,7 @@ other-primary :
     → IsWithout (decimal gid) line
     → (user.gid == gid) ≡ false
 other-primary gid line user read without = elim (cases_Bool (user.gid == gid)) [
-  | inl same ↦ absurd (without (subst (λ number. HoldsMark (decimal number) line)
+  | inl same ↦ absurd (without (subst (λ number. Holds (decimal number) line)
       (eqb-true user.gid gid same) (holds-primary line user read)))
   | inr other ↦ other
 ]
@@ -239,13 +234,3 @@ primary-marks gid act change marks change_is is = λ line without user read.
     ∙ ap (λ same. (if same then passwd_after act user else user) ∷ [])
     (other-primary gid line user read
     (subst (λ found. IsWithoutAll found line) is without).0)
-
--- what leaves each record without some marks leaves it alone in its place
-pub alone :
-    {R : Type 0} (format : Format R) (f : R → R) (marks : Option Marks)
-    → IfSome marks (λ m. (line : List ℕ) → IsWithoutAll (marks_in m) line
-    → (r : R) → format.read line ≡ Some r → f r ≡ r)
-    → IfSome marks (λ m. AreMarksOf format (λ r. f r ∷ []) (marks_in m))
-alone format f None is = tt
-alone format f (Some marks) is = λ line without r read.
-    ap (λ s. s ∷ []) (is line without r read)

@@ -1,7 +1,7 @@
--- Claim: a change of the records of a name touches these alone (`touches-named`, `touches-removed`). A
--- membership touches only the groups that the user joins where it leaves none and keeps its name
--- (`joined-group`, `joined-gshadow`). Way: act by act.
-use Rattle.std.proofs.Common.{◌≡◌, ◌∙◌, ℕ, Bool, true, false, List, [], ◌∷◌, refl, sym, ap, if◌then◌else◌}
+-- Claim: a change of the records of a name touches these alone (`touches-name`). A membership touches
+-- only the groups that the user joins where it leaves none and keeps its name (`joined-group`,
+-- `joined-gshadow`). Way: act by act.
+use Rattle.std.proofs.Common.{◌≡◌, ◌∙◌, ℕ, Bool, true, false, List, [], ◌∷◌, refl, sym, ap, inl, inr, ◌⊎◌, if◌then◌else◌}
 use Rattle.std.specs.Prelude.{◌&&◌, not, bytes_eq, IfSome, Option, Some, None}
 use Rattle.std.proofs.lemmas.Slice.Eq.{bytes_eq-Decides}
 use Rattle.account_model.specs.Format.{Format, is_named}
@@ -18,7 +18,7 @@ use Rattle.line_edits.specs.declared.gshadow_changes.GshadowAct.TheVariants.{Set
 use Rattle.line_edits.specs.declared.gshadow_changes.GshadowChange.TheVariants.{All as AllGshadows}
 use Rattle.line_edits.specs.declared.memberships.Membership.{Membership}
 use Rattle.line_edits.specs.declared.memberships.UserGroups.TheVariants.{Also, Kept}
-use Rattle.line_edits.specs.declared.changed_names.ChangedNames.{ChangedNames}
+use Rattle.line_edits.specs.declared.edit.ChangedNames.{ChangedNames}
 use Rattle.line_edits.proofs.LeftLemmas.{neither}
 
 -- a record of another name than one
@@ -56,6 +56,25 @@ module _ {R C : Type 0} (format : Format R) (becomes : C → R → List R) (chan
       → TouchesOnly format (becomes change) (text ∷ [])
   touches-removed gives =
       touches-told (λ named r. if named then [] else r ∷ []) gives (λ r. refl)
+
+-- what is done by an act with the records of a name, or by their removal
+module _ {R A C : Type 0} (format : Format R) (becomes : C → R → List R)
+    (acting : List ℕ → A → C) (removing : List ℕ → C) (after : A → R → R)
+    (acts : (name : List ℕ) (act : A) (r : R)
+    → becomes (acting name act) r ≡ changed_named format name (after act) r)
+    (removes : (name : List ℕ) (r : R)
+    → becomes (removing name) r ≡ without_named format name r) where
+  -- touches them alone
+  pub touches-name :
+      (change : C) (name text : List ℕ)
+      → ((act : A) × (change ≡ acting name act)) ⊎ (change ≡ removing name)
+      → text ≡ name
+      → TouchesOnly format (becomes change) (text ∷ [])
+  touches-name change name text (inl told) named =
+      touches-named format becomes change (acting name told.0) name text told.1 named
+      (after told.0) (acts name told.0)
+  touches-name change name text (inr told) named =
+      touches-removed format becomes change (removing name) name text told named (removes name)
 
 -- ---- Memberships
 

@@ -1,5 +1,5 @@
 -- What the changes of groups make of a record of gshadow (gshadow(5)).
-use Rattle.std.specs.Prelude.{ℕ, List, [], ◌∷◌}
+use Rattle.std.specs.Prelude.{List, [], ◌∷◌}
 use Rattle.account_model.specs.declared.records.GshadowRecord.{GshadowRecord}
 use Rattle.account_model.specs.Members.{with_name, without_name}
 use Rattle.account_model.specs.Records.{gshadow_format}
@@ -10,13 +10,6 @@ use Rattle.line_edits.specs.declared.gshadow_changes.GshadowAct.TheVariants.{Ren
 use Rattle.line_edits.specs.declared.gshadow_changes.GshadowChange.{GshadowChange}
 use Rattle.line_edits.specs.declared.gshadow_changes.GshadowChange.TheVariants.{Named, All, Remove}
 
--- the record without the user in either list
-abbrev pub without_user : List ℕ → GshadowRecord → GshadowRecord
-without_user user r = record r {
-  administrators = without_name user r.administrators;
-  members = without_name user r.members;
-}
-
 -- the record after an act
 abbrev pub gshadow_after : GshadowAct → GshadowRecord → GshadowRecord
 gshadow_after (Rename name) r = record r { name = name }
@@ -25,7 +18,10 @@ gshadow_after (SetAdministrators administrators) r = record r { administrators =
 gshadow_after (AddMember user) r = record r { members = with_name user r.members }
 gshadow_after (RemoveMember user) r = record r { members = without_name user r.members }
 gshadow_after (SetMembers members) r = record r { members = members }
-gshadow_after (RemoveUser user) r = without_user user r
+gshadow_after (RemoveUser user) r = record r {
+  administrators = without_name user r.administrators;
+  members = without_name user r.members;
+}
 gshadow_after (SetMembership membership) r = gshadow_by membership r
 
 -- the records that a record becomes by a change

@@ -1,5 +1,4 @@
 pub mod SeenEdits
-pub mod OpenLines
 pub mod Touching
 pub mod GroupChanges
 pub mod GshadowChanges
@@ -11,5 +10,4 @@ pub mod Memberships
 pub mod Naming
 pub mod WrittenLines
 pub mod NameSets
-pub mod LineFields
 pub mod Rewriting

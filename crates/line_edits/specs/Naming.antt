@@ -1,11 +1,11 @@
 -- Which records a change may touch, by their names (passwd(5), shadow(5), group(5), gshadow(5)).
-use Rattle.std.specs.Prelude.{◌≡◌, ℕ, Bool, true, false, List, [], ◌∷◌, map, Option, None, Some, bytes_eq, if◌then◌else◌}
+use Rattle.std.specs.Prelude.{◌≡◌, ℕ, false, List, [], ◌∷◌, map, Some, if◌then◌else◌}
 use Rattle.std.specs.Vec.{vec_items}
 use Rattle.account_model.specs.Format.{Format, is_named}
 use Rattle.account_model.specs.Text.{is_listed}
 use Rattle.acct_tables.specs.Marks.{IsWithoutAll}
-use Rattle.line_edits.specs.declared.changed_names.ChangedNames.{ChangedNames}
-use Rattle.line_edits.specs.declared.changed_names.ChangedNames.TheVariants.{One, Each}
+use Rattle.line_edits.specs.declared.edit.ChangedNames.{ChangedNames}
+use Rattle.line_edits.specs.declared.edit.ChangedNames.TheVariants.{One, Each}
 
 -- f leaves the record that the text is, if it is one
 abbrev pub LeavesIt : {R : Type 0} → Format R → (R → List R) → List ℕ → Type 0
@@ -14,11 +14,6 @@ LeavesIt {R = R} format f text = (r : R) → format.read text ≡ Some r → f r
 -- f leaves each record whose line is without all of these marks
 abbrev pub AreMarksOf : {R : Type 0} → Format R → (R → List R) → List (List ℕ) → Type 0
 AreMarksOf format f marks = (line : List ℕ) → IsWithoutAll marks line → LeavesIt format f line
-
--- a name field that is given this, if anything, leaves the name
-abbrev pub leaves_name : List ℕ → Option (List ℕ) → Bool
-leaves_name name None = true
-leaves_name name (Some new) = bytes_eq new name
 
 -- the names as a list, in their order
 abbrev pub names_in : ChangedNames → List (List ℕ)
@@ -37,7 +32,3 @@ changed_named format name after r = (if is_named format name r then after r else
 -- a record of the name goes, and each other one stays
 abbrev pub without_named : {R : Type 0} → Format R → List ℕ → R → List R
 without_named format name r = if is_named format name r then [] else r ∷ []
-
--- by f the records of the name go, and nothing else is done
-abbrev pub Removes : {R : Type 0} → Format R → (R → List R) → List ℕ → Type 0
-Removes {R = R} format f name = (r : R) → f r ≡ without_named format name r

@@ -1,13 +1,9 @@
-// Fields of records that a tool sets or leaves as they are, and those of a line by which one is left.
+// A field of a record that a tool sets or leaves as it is, and the name of a line by which one is left.
 ghost use Rattle.std.specs.Prelude.{◌≡◌, not, bytes_eq, OnOk, unwrap_or};
-ghost use Rattle.acct_text.specs.Pieces.{fields_of};
-ghost use Rattle.account_model.specs.Faults.{field_at};
 ghost use Rattle.account_model.specs.Naming.{first_field as first_of};
-ghost use Rattle.line_edits.specs.LineFields.{AreBehindFirst};
-ghost use Rattle.line_edits.specs.Naming.{leaves_name};
 
-use acct_lines::{first_field, has_first_field};
-use acct_text::{Bytes, cut_once};
+use acct_lines::has_first_field;
+use acct_text::Bytes;
 use std::alloc::AllocError;
 
 /// Puts the new text into a field, where one is given.
@@ -20,44 +16,9 @@ pub(crate) fn set_given(field: &mut Bytes, new: &Option<Bytes>) -> Result<(), Al
     Ok(())
 }
 
-/// Whether a name field that gets this text, if any is given, leaves the name.
-pub fn leaves_name(new: &Option<Bytes>, name: &Bytes) -> bool
-    ensures { result ≡ leaves_name name.now new.now }
-{
-    match new {
-        Some(text) => text.as_slice() == name.as_slice(),
-        None => true,
-    }
-}
-
 /// Whether the line begins with another name.
 pub(crate) fn has_other_name(line: &[u8], name: &[u8]) -> bool
     ensures { result ≡ not (bytes_eq (first_of line.now) name.now) }
 {
     !has_first_field(line, name)
-}
-
-/// The third field of a line, counted from 1; an empty text where the line has fewer. Fields behind it
-/// aren't looked at.
-pub(crate) fn third_field(line: &[u8]) -> &[u8]
-    ensures { result.now ≡ field_at 3 (fields_of line.now) }
-{
-    first_field(behind_first(behind_first(line)))
-}
-
-/// The fourth field of a line, as `third_field` gives the third.
-pub(crate) fn fourth_field(line: &[u8]) -> &[u8]
-    ensures { result.now ≡ field_at 4 (fields_of line.now) }
-{
-    third_field(behind_first(line))
-}
-
-// The text behind the first colon of a line; an empty one where it has none.
-fn behind_first(line: &[u8]) -> &[u8]
-    ensures { AreBehindFirst (fields_of line.now) (fields_of result.now) }
-{
-    match cut_once(b':', line) {
-        Some(cut) => cut.behind,
-        None => &[],
-    }
 }

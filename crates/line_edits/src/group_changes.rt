@@ -1,18 +1,11 @@
 // What the tools do with records of group (group(5)).
-ghost use Rattle.std.specs.Prelude.{◌≡◌, ℕ, List, true, Some, IfSome, OnOk};
-ghost use Rattle.account_model.specs.Records.{group_format};
-ghost use Rattle.account_model.specs.Text.{is_listed};
-ghost use Rattle.account_model.specs.declared.records.GroupRecord.{GroupRecord};
-ghost use Rattle.acct_tables.specs.Marks.{IsWithoutAll, marks_in};
-ghost use Rattle.line_edits.specs.GroupChanges.{group_after, group_becomes};
-ghost use Rattle.line_edits.specs.Naming.{TouchesOnly, names_in};
-ghost use Rattle.line_edits.specs.declared.group_changes.GroupChange.TheVariants.{All};
+ghost use Rattle.std.specs.Prelude.{◌≡◌, Some, OnOk};
+ghost use Rattle.line_edits.specs.GroupChanges.{group_after};
 
-use crate::fields::{fourth_field, has_other_name};
 use crate::joined_texts::joined_group;
 use crate::lists::{add_name, remove_name};
 use crate::{Becoming, ChangedNames, EditedRecord, Membership, Rewritten};
-use acct_lines::{GroupRecord, TableRecord, first_field, lists};
+use acct_lines::{GroupLine, GroupRecord, TableRecord, lists};
 use acct_tables::Marks;
 use acct_text::{Bytes, Names};
 use std::alloc::{AllocError, Global};
@@ -86,78 +79,48 @@ impl EditedRecord for GroupRecord {
         }
     }
 
-    fn leaves(change: &GroupChange, line: &[u8]) -> bool {
+    fn only_name(change: &GroupChange) -> Option<&[u8]> {
         match change {
-            GroupChange::Named(name, _) => has_other_name(line, name.as_slice()),
-            GroupChange::All(act) => act_leaves(act, line),
-            GroupChange::Remove(name) => has_other_name(line, name.as_slice()),
+            GroupChange::Named(name, _) | GroupChange::Remove(name) => Some(name.as_slice()),
+            GroupChange::All(_) => None,
         }
     }
 
-    fn marks(change: &GroupChange) -> Option<Marks<'_>> {
+    fn several_names(change: &GroupChange) -> Option<ChangedNames<'_>> {
         match change {
-            GroupChange::Named(name, _) => Some(Marks::one(name.as_slice())),
-            GroupChange::All(act) => act_marks(act),
-            GroupChange::Remove(name) => Some(Marks::one(name.as_slice())),
+            GroupChange::All(act) => match act {
+                GroupAct::SetMembership(membership) => membership.only_groups(),
+                _ => None,
+            },
+            _ => None,
         }
     }
 
-    fn touched_names(change: &GroupChange) -> Option<ChangedNames<'_>> {
+    fn other_marks(change: &GroupChange) -> Option<Marks<'_>> {
         match change {
-            GroupChange::Named(name, _) => Some(ChangedNames::One(name.as_slice())),
-            GroupChange::Remove(name) => Some(ChangedNames::One(name.as_slice())),
-            GroupChange::All(act) => act_names(act),
+            GroupChange::All(act) => match act {
+                GroupAct::RemoveMember(user) => Some(Marks::one(user.as_slice())),
+                GroupAct::SetMembership(membership) => membership.marks(),
+                _ => None,
+            },
+            _ => None,
+        }
+    }
+
+    fn leaves_fields(change: &GroupChange, line: &[u8]) -> bool {
+        let (GroupChange::All(act), Ok(group)) = (change, GroupLine::read(line)) else {
+            return false;
+        };
+        match act {
+            GroupAct::RemoveMember(user) => !lists(group.members, user.as_slice()),
+            GroupAct::SetMembership(membership) => {
+                !membership.joins(group.name) && !lists(group.members, membership.user.as_slice())
+            }
+            _ => false,
         }
     }
 
     ghost no_blank = { refl };
-}
-
-// The names of all groups that the act may touch; none where it may touch others.
-fn act_names(act: &GroupAct) -> Option<ChangedNames<'_>>
-    ensures { IfSome result (λ names.
-        TouchesOnly group_format (group_becomes (All act.now)) (names_in names)) }
-{
-    match act {
-        GroupAct::SetMembership(membership) => membership.only_groups(),
-        _ => None,
-    }
-}
-
-// Marks of which the line of each group has one that the act may change; none where no such marks
-// are known, or they are many.
-fn act_marks(act: &GroupAct) -> Option<Marks<'_>>
-    ensures { IfSome result (λ marks. (line : List ℕ) → IsWithoutAll (marks_in marks) line
-        → (group : GroupRecord) → group_format.read line ≡ Some group
-        → group_after act.now group ≡ group) }
-{
-    match act {
-        GroupAct::RemoveMember(user) => Some(Marks::one(user.as_slice())),
-        GroupAct::SetMembership(membership) => membership.marks(),
-        _ => None,
-    }
-}
-
-// Whether the act surely leaves the group that the line is, if it is one.
-fn act_leaves(act: &GroupAct, line: &[u8]) -> bool
-    ensures { result ≡ true → (group : GroupRecord)
-        → group_format.read line.now ≡ Some group → group_after act.now group ≡ group }
-{
-    match act {
-        GroupAct::RemoveMember(user) => !has_member(line, user.as_slice()),
-        GroupAct::SetMembership(membership) => {
-            !membership.joins(first_field(line)) && !has_member(line, membership.user.as_slice())
-        }
-        _ => false,
-    }
-}
-
-// Whether the line is a group that has the member.
-fn has_member(line: &[u8], user: &[u8]) -> bool
-    ensures { (group : GroupRecord) → group_format.read line.now ≡ Some group
-        → result ≡ is_listed user.now group.members }
-{
-    lists(fourth_field(line), user)
 }
 
 // Does the act with the record. At `AllocError` a user who joins may have the old name in it.

@@ -1,18 +1,13 @@
 // What the tools do with records of gshadow (gshadow(5)).
-ghost use Rattle.std.specs.Prelude.{◌≡◌, ◌||◌, ℕ, List, true, Some, IfSome, OnOk};
-ghost use Rattle.account_model.specs.declared.records.GshadowRecord.{GshadowRecord};
-ghost use Rattle.account_model.specs.Records.{gshadow_format};
+ghost use Rattle.std.specs.Prelude.{◌≡◌, ◌||◌, Some, OnOk};
 ghost use Rattle.account_model.specs.Text.{is_listed};
-ghost use Rattle.acct_tables.specs.Marks.{IsWithoutAll, marks_in};
-ghost use Rattle.line_edits.specs.GshadowChanges.{gshadow_after, gshadow_becomes};
-ghost use Rattle.line_edits.specs.Naming.{TouchesOnly, names_in};
-ghost use Rattle.line_edits.specs.declared.gshadow_changes.GshadowChange.TheVariants.{All};
+ghost use Rattle.acct_lines.specs.Shown.{gshadow_shown};
+ghost use Rattle.line_edits.specs.GshadowChanges.{gshadow_after};
 
-use crate::fields::{fourth_field, has_other_name, third_field};
 use crate::joined_texts::joined_gshadow;
 use crate::lists::{add_name, remove_name};
 use crate::{Becoming, ChangedNames, EditedRecord, Membership, Rewritten};
-use acct_lines::{GshadowRecord, TableRecord, first_field, lists};
+use acct_lines::{GshadowLine, GshadowRecord, TableRecord, lists};
 use acct_tables::Marks;
 use acct_text::{Bytes, Names};
 use std::alloc::{AllocError, Global};
@@ -88,78 +83,56 @@ impl EditedRecord for GshadowRecord {
         }
     }
 
-    fn leaves(change: &GshadowChange, line: &[u8]) -> bool {
+    fn only_name(change: &GshadowChange) -> Option<&[u8]> {
         match change {
-            GshadowChange::Named(name, _) => has_other_name(line, name.as_slice()),
-            GshadowChange::All(act) => act_leaves(act, line),
-            GshadowChange::Remove(name) => has_other_name(line, name.as_slice()),
+            GshadowChange::Named(name, _) | GshadowChange::Remove(name) => Some(name.as_slice()),
+            GshadowChange::All(_) => None,
         }
     }
 
-    fn marks(change: &GshadowChange) -> Option<Marks<'_>> {
+    fn several_names(change: &GshadowChange) -> Option<ChangedNames<'_>> {
         match change {
-            GshadowChange::Named(name, _) => Some(Marks::one(name.as_slice())),
-            GshadowChange::All(act) => act_marks(act),
-            GshadowChange::Remove(name) => Some(Marks::one(name.as_slice())),
+            GshadowChange::All(act) => match act {
+                GshadowAct::SetMembership(membership) => membership.only_groups(),
+                _ => None,
+            },
+            _ => None,
         }
     }
 
-    fn touched_names(change: &GshadowChange) -> Option<ChangedNames<'_>> {
+    fn other_marks(change: &GshadowChange) -> Option<Marks<'_>> {
         match change {
-            GshadowChange::Named(name, _) => Some(ChangedNames::One(name.as_slice())),
-            GshadowChange::Remove(name) => Some(ChangedNames::One(name.as_slice())),
-            GshadowChange::All(act) => act_names(act),
+            GshadowChange::All(act) => match act {
+                GshadowAct::RemoveUser(user) => Some(Marks::one(user.as_slice())),
+                GshadowAct::SetMembership(membership) => membership.marks(),
+                _ => None,
+            },
+            _ => None,
+        }
+    }
+
+    fn leaves_fields(change: &GshadowChange, line: &[u8]) -> bool {
+        let (GshadowChange::All(act), Ok(group)) = (change, GshadowLine::read(line)) else {
+            return false;
+        };
+        match act {
+            GshadowAct::RemoveUser(user) => !has_user(&group, user.as_slice()),
+            GshadowAct::SetMembership(membership) => {
+                !membership.joins(group.name) && !has_user(&group, membership.user.as_slice())
+            }
+            _ => false,
         }
     }
 
     ghost no_blank = { refl };
 }
 
-// The names of all groups that the act may touch; none where it may touch others.
-fn act_names(act: &GshadowAct) -> Option<ChangedNames<'_>>
-    ensures { IfSome result (λ names.
-        TouchesOnly gshadow_format (gshadow_becomes (All act.now)) (names_in names)) }
+// Whether the group has the administrator or member.
+fn has_user(group: &GshadowLine<'_>, user: &[u8]) -> bool
+    ensures { result ≡ (is_listed user.now (gshadow_shown group.now).administrators
+        || is_listed user.now (gshadow_shown group.now).members) }
 {
-    match act {
-        GshadowAct::SetMembership(membership) => membership.only_groups(),
-        _ => None,
-    }
-}
-
-// Marks of which the line of each group has one that the act may change; none where no such marks
-// are known, or they are many.
-fn act_marks(act: &GshadowAct) -> Option<Marks<'_>>
-    ensures { IfSome result (λ marks. (line : List ℕ) → IsWithoutAll (marks_in marks) line
-        → (group : GshadowRecord) → gshadow_format.read line ≡ Some group
-        → gshadow_after act.now group ≡ group) }
-{
-    match act {
-        GshadowAct::RemoveUser(user) => Some(Marks::one(user.as_slice())),
-        GshadowAct::SetMembership(membership) => membership.marks(),
-        _ => None,
-    }
-}
-
-// Whether the act surely leaves the group that the line is, if it is one.
-fn act_leaves(act: &GshadowAct, line: &[u8]) -> bool
-    ensures { result ≡ true → (group : GshadowRecord)
-        → gshadow_format.read line.now ≡ Some group → gshadow_after act.now group ≡ group }
-{
-    match act {
-        GshadowAct::RemoveUser(user) => !has_user(line, user.as_slice()),
-        GshadowAct::SetMembership(membership) => {
-            !membership.joins(first_field(line)) && !has_user(line, membership.user.as_slice())
-        }
-        _ => false,
-    }
-}
-
-// Whether the line is a group that has the administrator or member.
-fn has_user(line: &[u8], user: &[u8]) -> bool
-    ensures { (group : GshadowRecord) → gshadow_format.read line.now ≡ Some group
-        → result ≡ (is_listed user.now group.administrators || is_listed user.now group.members) }
-{
-    lists(third_field(line), user) || lists(fourth_field(line), user)
+    lists(group.administrators, user) || lists(group.members, user)
 }
 
 // Does the act with the record. At `AllocError` the user may have left one list alone.

@@ -7,7 +7,6 @@
 //! makes a change in the text of a file.
 #![tactic(auto)]
 
-mod changed_names;
 mod edit;
 mod fields;
 mod group_changes;
@@ -24,9 +23,7 @@ mod shadow_changes;
 mod subid_changes;
 mod touching;
 
-pub use changed_names::ChangedNames;
-pub use edit::{Becoming, Edit, EditedRecord, Rewritten};
-pub use fields::leaves_name;
+pub use edit::{Becoming, ChangedNames, Edit, EditedRecord, Rewritten};
 pub use group_changes::{GroupAct, GroupChange};
 pub use gshadow_changes::{GshadowAct, GshadowChange};
 pub use hash_change::HashChange;

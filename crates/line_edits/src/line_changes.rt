@@ -1,6 +1,5 @@
-// What becomes of the lines of a table's file by a change: lines that it leaves are copied together,
-// and each other one is read.
-ghost use Rattle.std.specs.Prelude.{◌≡◌, ◌++◌, ◌≤◌, [], ◌∷◌, Some, length, map, IfOk, OnOk};
+// What becomes of the lines of a table's file by a change: those that it leaves are copied unread.
+ghost use Rattle.std.specs.Prelude.{◌≡◌, ◌++◌, [], ◌∷◌, Some, IfOk, OnOk};
 ghost use Rattle.acct_text.specs.Bytes.{newline};
 ghost use Rattle.acct_text.specs.Lines.{file_bytes, line_bytes, lines_of};
 ghost use Rattle.acct_text.specs.Pieces.{Lacks};
@@ -9,10 +8,9 @@ ghost use Rattle.account_model.specs.Edits as model;
 ghost use Rattle.account_model.specs.RecordEdits.{IsWrittenEdit};
 ghost use Rattle.account_model.specs.Written.{IsWritten};
 ghost use Rattle.acct_tables.specs.SeenLines.{seen_line};
-ghost use Rattle.line_edits.specs.OpenLines.{IsOpenFrom};
 
 use crate::{Becoming, EditedRecord};
-use acct_tables::{FileLine, Lines, from_marks, read_record};
+use acct_tables::{FileLine, Lines, read_record};
 use acct_text::Bytes;
 use std::alloc::{AllocError, Global};
 
@@ -27,55 +25,11 @@ pub fn changed_text<R: EditedRecord + Drop>(
         (edited R.format (lines_of text.now) (model.Become (R.becomes change.now)))) }
 {
     let mut made = Bytes::new(alloc);
-    let mut left = push_front::<R>(&mut made, text, change)?;
+    let mut left = Lines::of(text);
     'lines: while let Some(line) = left.take() {
         push_changed::<R>(alloc, &mut made, &line, change)?;
-        left = push_front::<R>(&mut made, left.bytes(), change)?;
     }
     Ok(made)
-}
-
-// Adds the leading lines that the change leaves, all at once, and gives the others.
-fn push_front<'a, R: EditedRecord>(
-    made: &mut Bytes,
-    text: &'a [u8],
-    change: &R::Change,
-) -> Result<Lines<'a>, AllocError>
-    ensures added { IfOk result (λ left.
-        made.new ++ file_bytes (edited R.format left (model.Become (R.becomes change.now)))
-        ≡ made.old ++ file_bytes
-        (edited R.format (lines_of text.now) (model.Become (R.becomes change.now)))) }
-    ensures no_more { IfOk result (λ left. length left ≤ length (lines_of text.now)) }
-{
-    let behind = open_from::<R>(text, change);
-    made.push(&text[..text.len() - behind.len()])?;
-    Ok(Lines::of(behind))
-}
-
-// The text from the first line on that the change may touch; empty where there is none.
-fn open_from<'a, R: EditedRecord>(text: &'a [u8], change: &R::Change) -> &'a [u8]
-    ensures { IsOpenFrom R.format (R.becomes change.now) text.now result.now }
-{
-    let mut behind = marked_from::<R>(text, change);
-    let mut left = Lines::of(behind);
-    'lines: while let Some(line) = left.take() {
-        if !R::leaves(change, line.text) {
-            return behind;
-        }
-        behind = marked_from::<R>(left.bytes(), change);
-        left = Lines::of(behind);
-    }
-    behind
-}
-
-// The text from a line on, where the change leaves the lines in front: they lack its marks.
-fn marked_from<'a, R: EditedRecord>(text: &'a [u8], change: &R::Change) -> &'a [u8]
-    ensures { IsOpenFrom R.format (R.becomes change.now) text.now result.now }
-{
-    match R::marks(change) {
-        Some(marks) => from_marks(text, marks),
-        None => text,
-    }
 }
 
 // Adds what becomes of a line. One that the change leaves isn't read.
@@ -117,7 +71,10 @@ fn push_becoming<R: EditedRecord + Drop>(
         Becoming::Stays => line.push_to(made),
         Becoming::Changes(new) => push_instead(alloc, made, line, kept.as_slice(), &new),
         Becoming::Goes => Ok(()),
-        Becoming::Splits(first, second) => push_two(alloc, made, &first, &second),
+        Becoming::Splits(first, second) => {
+            push_new(alloc, made, &first)?;
+            push_new(alloc, made, &second)
+        }
     }
 }
 
@@ -144,22 +101,6 @@ fn push_instead<R: EditedRecord + Drop>(
         ended: line.ended,
     };
     changed.push_to(made)
-}
-
-// Adds the lines of two new records, each with an end.
-fn push_two<R: EditedRecord + Drop>(
-    alloc: Global,
-    made: &mut Bytes,
-    first: &R,
-    second: &R,
-) -> Result<(), AllocError>
-    requires first { IsWritten R.format first.now }
-    requires second { IsWritten R.format second.now }
-    ensures { OnOk result (made.new ≡ made.old ++ file_bytes
-        (map (printed_line R.format) (first.now ∷ second.now ∷ []))) }
-{
-    push_new(alloc, made, first)?;
-    push_new(alloc, made, second)
 }
 
 // Adds the line of a new record, with an end.

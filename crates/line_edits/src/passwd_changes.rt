@@ -1,15 +1,12 @@
 // What the tools do with records of passwd (passwd(5)).
 ghost use Rattle.std.specs.Prelude.{◌≡◌, ◌==◌, Some, OnOk};
-ghost use Rattle.account_model.specs.Records.{passwd_format};
-ghost use Rattle.account_model.specs.declared.records.PasswdRecord.{PasswdRecord};
 ghost use Rattle.line_edits.specs.PasswdChanges.{passwd_after, with_user_fields};
 
-use crate::fields::{fourth_field, has_other_name, set_given};
-use crate::{Becoming, ChangedNames, EditedRecord, HashChange, PrimaryGroup};
-use account_model::GREATEST_ID;
-use acct_lines::{PasswdRecord, TableRecord};
+use crate::fields::set_given;
+use crate::{Becoming, EditedRecord, HashChange, PrimaryGroup};
+use acct_lines::{PasswdLine, PasswdRecord, TableRecord};
 use acct_tables::Marks;
-use acct_text::{Bytes, read_decimal};
+use acct_text::Bytes;
 use std::alloc::{AllocError, Global};
 
 /// What is done with a record of passwd.
@@ -94,42 +91,31 @@ impl EditedRecord for PasswdRecord {
         Ok(Becoming::Changes(self))
     }
 
-    fn leaves(change: &PasswdChange, line: &[u8]) -> bool {
+    fn only_name(change: &PasswdChange) -> Option<&[u8]> {
         match change {
-            PasswdChange::Named(name, _) => has_other_name(line, name.as_slice()),
-            PasswdChange::OfGroup(group, _) => !has_gid(line, group.gid()),
-            PasswdChange::Remove(name) => has_other_name(line, name.as_slice()),
-        }
-    }
-
-    fn marks(change: &PasswdChange) -> Option<Marks<'_>> {
-        match change {
-            PasswdChange::Named(name, _) => Some(Marks::one(name.as_slice())),
-            PasswdChange::OfGroup(group, _) => Some(Marks::one(group.digits())),
-            PasswdChange::Remove(name) => Some(Marks::one(name.as_slice())),
-        }
-    }
-
-    fn touched_names(change: &PasswdChange) -> Option<ChangedNames<'_>> {
-        match change {
-            PasswdChange::Named(name, _) => Some(ChangedNames::One(name.as_slice())),
-            PasswdChange::Remove(name) => Some(ChangedNames::One(name.as_slice())),
+            PasswdChange::Named(name, _) | PasswdChange::Remove(name) => Some(name.as_slice()),
             PasswdChange::OfGroup(..) => None,
         }
     }
 
-    ghost no_blank = { refl };
-}
-
-// Whether the line is a user whose primary group has the GID.
-fn has_gid(line: &[u8], gid: u32) -> bool
-    ensures { (user : PasswdRecord) → passwd_format.read line.now ≡ Some user
-        → result ≡ (user.gid == gid) }
-{
-    match read_decimal(fourth_field(line), u64::from(GREATEST_ID)) {
-        Ok(found) => found == u64::from(gid),
-        Err(_) => false,
+    fn other_marks(change: &PasswdChange) -> Option<Marks<'_>> {
+        match change {
+            PasswdChange::OfGroup(group, _) => Some(Marks::one(group.digits())),
+            _ => None,
+        }
     }
+
+    fn leaves_fields(change: &PasswdChange, line: &[u8]) -> bool {
+        match change {
+            PasswdChange::OfGroup(group, _) => match PasswdLine::read(line) {
+                Ok(user) => user.gid != group.gid(),
+                Err(_) => false,
+            },
+            _ => false,
+        }
+    }
+
+    ghost no_blank = { refl };
 }
 
 // Does the act with the record. At `AllocError` it may have some of the fields that are given.

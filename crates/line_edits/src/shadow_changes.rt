@@ -5,10 +5,9 @@ ghost use Rattle.account_model.specs.declared.records.ShadowRecord.{ShadowRecord
 ghost use Rattle.acct_lines.specs.DaysValues.{days_held};
 ghost use Rattle.line_edits.specs.ShadowChanges.{given_days, shadow_after, with_shadow_fields};
 
-use crate::fields::{has_other_name, set_given};
-use crate::{Becoming, ChangedNames, EditedRecord, HashChange};
+use crate::fields::set_given;
+use crate::{Becoming, EditedRecord, HashChange};
 use acct_lines::{DaysValue, ShadowLine, ShadowRecord, TableRecord};
-use acct_tables::Marks;
 use acct_text::Bytes;
 use std::alloc::{AllocError, Global};
 
@@ -138,15 +137,6 @@ impl EditedRecord for ShadowRecord {
         Ok(Becoming::Changes(self))
     }
 
-    fn leaves(change: &ShadowChange, line: &[u8]) -> bool {
-        match change {
-            ShadowChange::Named(name, act) => {
-                has_other_name(line, name.as_slice()) || act_leaves(act, line)
-            }
-            ShadowChange::Remove(name) => has_other_name(line, name.as_slice()),
-        }
-    }
-
     fn are_same(one: &ShadowChange, other: &ShadowChange) -> bool {
         match (one, other) {
             (ShadowChange::Named(name, act), ShadowChange::Named(again, other)) => {
@@ -156,17 +146,16 @@ impl EditedRecord for ShadowRecord {
         }
     }
 
-    fn marks(change: &ShadowChange) -> Option<Marks<'_>> {
+    fn only_name(change: &ShadowChange) -> Option<&[u8]> {
         match change {
-            ShadowChange::Named(name, _) => Some(Marks::one(name.as_slice())),
-            ShadowChange::Remove(name) => Some(Marks::one(name.as_slice())),
+            ShadowChange::Named(name, _) | ShadowChange::Remove(name) => Some(name.as_slice()),
         }
     }
 
-    fn touched_names(change: &ShadowChange) -> Option<ChangedNames<'_>> {
+    fn leaves_fields(change: &ShadowChange, line: &[u8]) -> bool {
         match change {
-            ShadowChange::Named(name, _) => Some(ChangedNames::One(name.as_slice())),
-            ShadowChange::Remove(name) => Some(ChangedNames::One(name.as_slice())),
+            ShadowChange::Named(_, act) => act_leaves(act, line),
+            ShadowChange::Remove(_) => false,
         }
     }
 

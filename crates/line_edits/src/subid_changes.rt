@@ -6,10 +6,9 @@ ghost use Rattle.account_model.specs.SubidOwner.{left_above, left_below, left_wi
 ghost use Rattle.account_model.specs.Written.{IsWritten};
 ghost use Rattle.line_edits.specs.SeenEdits.{records_in};
 
-use crate::fields::has_other_name;
-use crate::{Becoming, ChangedNames, EditedRecord};
+use crate::{Becoming, EditedRecord};
 use acct_lines::{SubidRecord, TableRecord, first_field};
-use acct_tables::{Marks, is_owned, is_owner, last_id};
+use acct_tables::{is_owned, is_owner, last_id};
 use acct_text::Bytes;
 use std::alloc::{AllocError, Global};
 
@@ -64,30 +63,19 @@ impl EditedRecord for SubidRecord {
         }
     }
 
-    fn leaves(change: &SubidChange, line: &[u8]) -> bool {
+    fn only_name(change: &SubidChange) -> Option<&[u8]> {
         match change {
-            SubidChange::Rename(old, _) => has_other_name(line, old.as_slice()),
-            SubidChange::Remove(user, uid) => {
-                !is_owner(first_field(line), user.as_slice(), *uid)
-            }
-            SubidChange::Cut(cut) => { !is_owner(first_field(line), cut.owner.as_slice(), cut.uid) }
-        }
-    }
-
-    fn marks(change: &SubidChange) -> Option<Marks<'_>> {
-        match change {
-            SubidChange::Rename(old, _) => Some(Marks::one(old.as_slice())),
+            SubidChange::Rename(old, _) => Some(old.as_slice()),
+            SubidChange::Remove(user, uid) if uid.is_none() => Some(user.as_slice()),
             _ => None,
         }
     }
 
-    fn touched_names(change: &SubidChange) -> Option<ChangedNames<'_>> {
+    fn leaves_fields(change: &SubidChange, line: &[u8]) -> bool {
         match change {
-            SubidChange::Rename(old, _) => Some(ChangedNames::One(old.as_slice())),
-            SubidChange::Remove(user, uid) if uid.is_none() => {
-                Some(ChangedNames::One(user.as_slice()))
-            }
-            _ => None,
+            SubidChange::Rename(..) => false,
+            SubidChange::Remove(user, uid) => !is_owner(first_field(line), user.as_slice(), *uid),
+            SubidChange::Cut(cut) => !is_owner(first_field(line), cut.owner.as_slice(), cut.uid),
         }
     }
 

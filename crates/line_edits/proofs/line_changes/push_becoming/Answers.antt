@@ -1,7 +1,7 @@
-use Rattle.std.proofs.Common.{◌≡◌, ◌∙◌, [], ◌∷◌, ◌++◌, ap, sym, append-nil}
+use Rattle.std.proofs.Common.{◌≡◌, ◌∙◌, [], ◌∷◌, ◌++◌, ap, sym, append_assoc, append-nil}
 use Rattle.std.proofs.lemmas.Result.{on_ok_weaker}
-use Rattle.acct_text.specs.Lines.{file_bytes}
-use Rattle.account_model.specs.Edits.{line_becomes}
+use Rattle.acct_text.specs.Lines.{file_bytes, line_bytes}
+use Rattle.account_model.specs.Edits.{line_becomes, printed_line}
 use Rattle.acct_tables.specs.SeenLines.{seen_line}
 use Rattle.line_edits.specs.SeenEdits.{records_in}
 use Rattle.line_edits.proofs.ChangedLines.{same-line, stays-bytes}
@@ -46,8 +46,14 @@ returns g c =
     let format = g.R.TableRecord.format in
     let line = seen_line c.args.line.now in
     let item = c.args.item in
-    on_ok_weaker c.push_two.result
+    let made = c.args.made.now in
+    let first = line_bytes (printed_line format c.in-Splits.first) in
+    let second = line_bytes (printed_line format c.in-Splits.second) in
+    on_ok_weaker c.push_new-in-Splits.result
     (λ pushed. pushed
-    ∙ ap (λ records. c.args.made.now ++ file_bytes (line_becomes format line item records))
+    ∙ ap (λ front. front ++ second) c.in_ok-push_new-in-Splits.ensures
+    ∙ append_assoc made first second
+    ∙ ap (λ rest. made ++ (first ++ rest)) (sym (append-nil second))
+    ∙ ap (λ records. made ++ file_bytes (line_becomes format line item records))
     (sym (ap (records_in item) c.in-Splits.is) ∙ c.in_ok-becoming.ensures))
-    c.push_two.ensures
+    c.push_new-in-Splits.ensures
