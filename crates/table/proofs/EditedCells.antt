@@ -15,10 +15,10 @@ use Rattle.account_model.specs.RecordEdits.{IsWrittenEdit}
 use Rattle.account_model.specs.Written.{IsWritten}
 use Rattle.acct_tables.specs.TableLines.{text_is_named}
 use Rattle.line_edits.specs.Naming.{Leaves}
-use Rattle.table.specs.Cells.{cell_at, text_added, texts_put}
-use Rattle.table.specs.declared.cell.Cell.{Cell}
-use Rattle.table.specs.declared.key_places.Spot.TheVariants.{At}
-use Rattle.table.specs.KeyPlaces.{Notes, Widens, has_key}
+use Rattle.acct_tables.specs.Cells.{cell_at, text_added, texts_put}
+use Rattle.acct_tables.specs.declared.cell.Cell.{Cell}
+use Rattle.acct_tables.specs.declared.key_places.Spot.TheVariants.{At}
+use Rattle.acct_tables.specs.KeyPlaces.{Notes, Widens, has_key}
 use Rattle.table.specs.Keys.{BringsOnly}
 use Rattle.account_model.specs.RecordEdits.{TellsSame}
 use Rattle.table.specs.Changed.{text_becomes, text_instead, text_put, texts_becoming, texts_with}

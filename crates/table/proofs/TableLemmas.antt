@@ -9,8 +9,8 @@ use Rattle.account_model.specs.Edits.{Edit, edited_by}
 use Rattle.account_model.specs.Format.{Format, records_of}
 use Rattle.account_model.specs.Tables.{table_after, table_records}
 use Rattle.acct_tables.specs.SeenLines.{AreOfFile}
-use Rattle.table.specs.Cells.{lines_now}
-use Rattle.table.specs.declared.cell.Cell.{Cell}
+use Rattle.acct_tables.specs.Cells.{lines_now}
+use Rattle.acct_tables.specs.declared.cell.Cell.{Cell}
 use Rattle.table.specs.Standing.{IsOfFile, file_in}
 use Rattle.table.specs.declared.table.Standing.{Standing}
 use Rattle.table.specs.declared.table.Standing.TheVariants.{Indexed}

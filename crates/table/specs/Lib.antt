@@ -6,9 +6,5 @@ pub mod Met
 pub mod LastEdits
 pub mod FirstMet
 pub mod Changed
-pub mod Cells
-pub mod Kept
-pub mod Texts
-pub mod KeyPlaces
 pub mod Keys
 pub mod OwnKeys

@@ -3,8 +3,8 @@
 use Rattle.std.specs.Prelude.{◌≡◌, ◌⊎◌, ℕ, List, Option, None, Some, ⊤}
 use Rattle.acct_text.specs.Lines.{file_bytes}
 use Rattle.acct_tables.specs.SeenLines.{AreOfFile}
-use Rattle.table.specs.Cells.{lines_now}
-use Rattle.table.specs.declared.cell.Cell.{Cell}
+use Rattle.acct_tables.specs.Cells.{lines_now}
+use Rattle.acct_tables.specs.declared.cell.Cell.{Cell}
 use Rattle.table.specs.declared.files.SeenFile.{SeenFile}
 use Rattle.table.specs.declared.files.SeenFile.TheVariants.{Lent, Made}
 use Rattle.table.specs.declared.table.Standing.{Standing}

@@ -3,13 +3,13 @@ ghost use Rattle.std.specs.Prelude.{◌≡◌, IfOk};
 ghost use Rattle.account_model.specs.Edits.{edited, edited_by};
 ghost use Rattle.acct_tables.specs.SeenLines.{AreOfFile};
 ghost use Rattle.line_edits.specs.SeenEdits.{seen_edit, seen_edits};
-ghost use Rattle.table.specs.Cells.{lines_now};
+ghost use Rattle.acct_tables.specs.Cells.{lines_now};
 ghost use Rattle.table.specs.TableEdits.{AreWritten};
 
-use crate::file_text::FileText;
 use crate::keyed_cells::KeyedCells;
 use crate::keys::KeyedRecord;
 use crate::last_edits::{LastEdits, have_same};
+use acct_tables::FileText;
 use line_edits::Edit;
 use std::alloc::{AllocError, Global};
 

@@ -10,12 +10,11 @@ ghost use Rattle.table.specs.Standing.{file_seen};
 ghost use Rattle.table.specs.TableEdits.{AreWritten, multiple_by, table_by};
 
 use crate::edited::edited;
-use crate::file_text::FileText;
 use crate::files::SeenFile;
 use crate::keyed_cells::KeyedCells;
 use crate::keys::KeyedRecord;
 use crate::named_texts::push_named;
-use acct_tables::{Lines, MANY, from_marks, text_of};
+use acct_tables::{MANY, FileText, Lines, from_marks, text_of};
 use acct_text::Bytes;
 use line_edits::{ChangedNames, Edit};
 use std::alloc::{AllocError, Global};

@@ -3,7 +3,7 @@ ghost use Rattle.std.specs.Prelude.{◌≡◌, None, IfOk};
 ghost use Rattle.acct_text.specs.Contents.{same_content};
 ghost use Rattle.table.specs.Standing.{IsTaken, file_seen};
 
-use crate::file_text::FileText;
+use acct_tables::FileText;
 use acct_text::Bytes;
 use std::alloc::AllocError;
 

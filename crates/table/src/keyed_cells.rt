@@ -6,22 +6,18 @@ ghost use Rattle.std.specs.List.{list_any};
 ghost use Rattle.acct_text.specs.Lines.{file_bytes, lines_of};
 ghost use Rattle.account_model.specs.Format.{count_named, find_named, has_named, is_named, records_of};
 ghost use Rattle.acct_tables.specs.SeenLines.{AreOfFile};
-ghost use Rattle.table.specs.Cells.{cells_from, lines_now};
+ghost use Rattle.acct_tables.specs.Cells.{cells_from, lines_now};
 ghost use Rattle.table.specs.TableCells.{has_named_at};
 
-use crate::file::LineFile;
-use crate::file_text::FileText;
 use crate::gathering::gathered;
 use crate::key_names::own_key;
-use crate::key_places::KeyPlaces;
 use crate::keys::KeyedRecord;
 use crate::named_texts::{
     all_named, are_several_named, first_accepted, first_named, has_in_one, has_named,
 };
-use crate::place_lists::ListedPlaces;
 use crate::search::{RecordTest, first_passing};
 use crate::texts_there::TextsThere;
-use acct_tables::read_record;
+use acct_tables::{FileText, KeyPlaces, LineFile, ListedPlaces, read_record};
 use acct_text::Bytes;
 use std::alloc::{AllocError, Global};
 use std::marker::{Model, PhantomData};
@@ -56,8 +52,8 @@ impl<'a, R: KeyedRecord + Drop> Drop for KeyedCells<'a, R> {
 
 impl<'a, R: KeyedRecord> Model for KeyedCells<'a, R> {
     ghost use Rattle.std.specs.Prelude.{List};
-    ghost use Rattle.table.specs.declared.cell.Cell.{Cell};
-    ghost use Rattle.table.specs.KeyPlaces.{told_places};
+    ghost use Rattle.acct_tables.specs.declared.cell.Cell.{Cell};
+    ghost use Rattle.acct_tables.specs.KeyPlaces.{told_places};
     ghost use Rattle.table.specs.TableCells.{AreKept};
 
     ghost Value = { List Cell };

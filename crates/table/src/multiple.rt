@@ -9,15 +9,14 @@ ghost use Rattle.account_model.specs.Format.{records_of};
 ghost use Rattle.account_model.specs.RecordEdits.{IsWrittenEdit};
 ghost use Rattle.line_edits.specs.SeenEdits.{seen_edit, seen_edits};
 ghost use Rattle.line_edits.specs.Touching.{is_met};
-ghost use Rattle.table.specs.Cells.{cell_at, lines_now};
+ghost use Rattle.acct_tables.specs.Cells.{cell_at, lines_now};
 ghost use Rattle.table.specs.Met.{MeetsAt, TouchesNamed, first_in, has_met, meets};
 ghost use Rattle.table.specs.TableCells.{cells_there, records_read};
 ghost use Rattle.table.specs.TableEdits.{AreWritten, multiple_by};
 
-use crate::cell::Texts;
 use crate::keyed_cells::KeyedCells;
 use crate::keys::KeyedRecord;
-use acct_tables::name_of;
+use acct_tables::{Texts, name_of};
 use acct_text::Bytes;
 use line_edits::{ChangedNames, Edit, leaves, touches};
 use std::alloc::{AllocError, Global};

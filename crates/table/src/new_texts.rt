@@ -10,8 +10,7 @@ ghost use Rattle.account_model.specs.Written.{IsWritten};
 ghost use Rattle.line_edits.specs.Naming.{Leaves};
 ghost use Rattle.table.specs.Changed.{text_becomes, text_instead, text_put, texts_becoming, texts_with};
 
-use crate::cell::Texts;
-use acct_tables::{TableRecord, is_named, read_record};
+use acct_tables::{TableRecord, Texts, is_named, read_record};
 use acct_text::Bytes;
 use line_edits::{Becoming, EditedRecord, Rewritten};
 use std::alloc::{AllocError, Global};

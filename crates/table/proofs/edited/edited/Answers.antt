@@ -8,7 +8,7 @@ use Rattle.acct_tables.specs.SeenLines.{AreOfFile}
 use Rattle.acct_tables.proofs.EditedFiles.{edit-of_file}
 use Rattle.line_edits.specs.SeenEdits.{seen_edit, seen_edits}
 use Rattle.line_edits.proofs.EditLists.{edit-at, seen-from}
-use Rattle.table.specs.Cells.{lines_now}
+use Rattle.acct_tables.specs.Cells.{lines_now}
 use Rattle.table.proofs.SettledEdits.{last-none, last-with, one-of}
 use Rattle.table.proofs.edited.edited.Goals as goal
 

@@ -2,7 +2,7 @@ use Rattle.std.proofs.Common.{◌≡◌, drop}
 use Rattle.account_model.specs.Edits.{edited, edited_by}
 use Rattle.acct_tables.specs.SeenLines.{AreOfFile}
 use Rattle.line_edits.specs.SeenEdits.{seen_edits}
-use Rattle.table.specs.Cells.{lines_now}
+use Rattle.acct_tables.specs.Cells.{lines_now}
 use Rattle.table.specs.LastEdits.{HoldsOfLast}
 use Rattle.table.proofs.edited.edited.Given as goal
 

@@ -5,7 +5,7 @@ use Rattle.account_model.specs.Edits.{edited_by}
 use Rattle.acct_tables.specs.SeenLines.{AreOfFile}
 use Rattle.acct_tables.proofs.EditedFiles.{text-of_file}
 use Rattle.line_edits.specs.SeenEdits.{seen_edits}
-use Rattle.table.specs.Cells.{lines_now}
+use Rattle.acct_tables.specs.Cells.{lines_now}
 use Rattle.table.proofs.KeptCells.{start-lines}
 use Rattle.table.proofs.file_records.edited_in.Goals as goal
 

@@ -2,7 +2,7 @@ use Rattle.std.proofs.Common.{◌∙◌, ap}
 use Rattle.std.proofs.lemmas.Result.{IfOk-weaker}
 use Rattle.acct_text.specs.Lines.{lines_of}
 use Rattle.account_model.specs.Format.{records_of}
-use Rattle.table.specs.Cells.{lines_now}
+use Rattle.acct_tables.specs.Cells.{lines_now}
 use Rattle.table.specs.TableEdits.{multiple_by}
 use Rattle.table.proofs.KeptCells.{start-lines}
 use Rattle.table.proofs.file_records.multiple_in.Goals as goal

@@ -1,5 +1,5 @@
 use Rattle.std.proofs.Common.{sym, subst}
-use Rattle.table.specs.KeyPlaces.{told_places}
+use Rattle.acct_tables.specs.KeyPlaces.{told_places}
 use Rattle.table.specs.TableCells.{HoldsThere, IsTold}
 use Rattle.table.proofs.KeptCells.{texts-noted}
 use Rattle.table.proofs.gathering.gathered.Goals as goal

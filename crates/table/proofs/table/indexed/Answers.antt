@@ -4,7 +4,7 @@ use Rattle.acct_text.specs.Lines.{file_bytes, lines_of}
 use Rattle.acct_text.proofs.LinesLaws.{lines_of-are}
 use Rattle.acct_tables.specs.SeenLines.{AreOfFile}
 use Rattle.acct_tables.proofs.EditedFiles.{text-of_file}
-use Rattle.table.specs.Cells.{lines_now}
+use Rattle.acct_tables.specs.Cells.{lines_now}
 use Rattle.table.specs.Standing.{file_in}
 use Rattle.table.proofs.KeptCells.{start-lines}
 use Rattle.table.proofs.table.indexed.Goals as goal

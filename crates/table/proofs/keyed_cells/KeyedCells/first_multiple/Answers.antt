@@ -3,7 +3,7 @@ use Rattle.std.specs.Prelude.{option_map}
 use Rattle.account_model.specs.Format.{records_of}
 use Rattle.line_edits.specs.SeenEdits.{seen_edits}
 use Rattle.line_edits.specs.Touching.{is_met}
-use Rattle.table.specs.Cells.{lines_now}
+use Rattle.acct_tables.specs.Cells.{lines_now}
 use Rattle.table.proofs.MetRecords.{none-placed}
 use Rattle.table.proofs.keyed_cells.KeyedCells.first_multiple.Goals as goal
 

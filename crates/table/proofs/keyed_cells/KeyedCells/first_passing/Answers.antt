@@ -1,6 +1,6 @@
 use Rattle.std.proofs.Common.{◌∙◌}
 use Rattle.std.proofs.lemmas.Result.{IfOk-weaker}
-use Rattle.table.specs.KeyPlaces.{has_key}
+use Rattle.acct_tables.specs.KeyPlaces.{has_key}
 use Rattle.table.proofs.ReachLemmas.{reaches-weaker}
 use Rattle.table.proofs.ReachedRecords.{found-there}
 use Rattle.table.proofs.keyed_cells.KeyedCells.first_passing.Goals as goal

@@ -1,6 +1,6 @@
 use Rattle.std.proofs.Common.{◌∙◌, ap, sym, subst}
 use Rattle.std.specs.List.{list_any}
-use Rattle.table.specs.KeyPlaces.{told_places}
+use Rattle.acct_tables.specs.KeyPlaces.{told_places}
 use Rattle.table.specs.TableCells.{AreKept, has_named_in}
 use Rattle.table.proofs.NamedPlaces.{any-named, listed-named}
 use Rattle.table.proofs.keyed_cells.KeyedCells.has.Goals as goal

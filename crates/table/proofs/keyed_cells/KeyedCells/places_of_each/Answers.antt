@@ -6,7 +6,7 @@ use Rattle.std.proofs.lemmas.List.{map_more, take_all}
 use Rattle.std.proofs.lemmas.List.Filters.{dedup_is}
 use Rattle.account_model.specs.Format.{is_named}
 use Rattle.account_model.specs.Text.{is_listed}
-use Rattle.table.specs.Cells.{ArePlaced}
+use Rattle.acct_tables.specs.Cells.{ArePlaced}
 use Rattle.table.specs.TableCells.{IsSound, Reaches, ReachesNames}
 use Rattle.table.proofs.ReachedNames.{names-more, names-sorted}
 use Rattle.table.proofs.keyed_cells.KeyedCells.places_of_each.Goals as goal

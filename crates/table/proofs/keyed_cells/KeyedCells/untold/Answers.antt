@@ -2,11 +2,11 @@ use Rattle.std.proofs.Common.{◌≡◌, true, sym, subst}
 use Rattle.std.specs.Prelude.{IfSome}
 use Rattle.std.specs.List.{AllByRecursion}
 use Rattle.account_model.specs.Ids.{is_used}
-use Rattle.table.specs.KeyPlaces.{told_places}
+use Rattle.acct_tables.specs.KeyPlaces.{told_places}
 use Rattle.acct_text.specs.Lines.{lines_of}
 use Rattle.acct_text.proofs.LinesLaws.{lines_of-are}
-use Rattle.table.specs.Cells.{ArePlaced, cells_from}
-use Rattle.table.proofs.PlacedCells.{ascend-placed, lines-ascend}
+use Rattle.acct_tables.specs.Cells.{ArePlaced, cells_from}
+use Rattle.acct_tables.proofs.PlacedCells.{ascend-placed, lines-ascend}
 use Rattle.table.specs.TableCells.{IsSound, IsTold}
 use Rattle.table.proofs.KeptCells.{start-sound}
 use Rattle.table.proofs.ReachLemmas.{there-all}
