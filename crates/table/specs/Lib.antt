@@ -1,4 +1,3 @@
-pub mod Standing
 pub mod Accepting
 pub mod TableEdits
 pub mod TableCells

@@ -1,7 +1,6 @@
 // The index of the keys of a table's lines, gathered in one pass (passwd(5),
 // shadow(5), group(5), gshadow(5), subuid(5), subgid(5)).
 ghost use Rattle.std.specs.Prelude.{IfOk};
-ghost use Rattle.acct_tables.specs.Cells.{ArePlaced};
 ghost use Rattle.acct_tables.specs.KeyPlaces.{Widens, told_places};
 ghost use Rattle.table.specs.TableCells.{HoldsIn, HoldsThere, IsTold};
 
@@ -15,9 +14,8 @@ pub(crate) fn gathered<R: KeyedRecord>(
     file: &LineFile<'_>,
     bytes: usize,
 ) -> Result<KeyPlaces, AllocError>
-    ensures told { IfOk result (λ keys.
+    ensures { IfOk result (λ keys.
         HoldsThere R.format (IsTold R.keys (told_places keys)) file.now) }
-    ensures placed { IfOk result (λ keys. ArePlaced file.now) }
 {
     let mut keys = KeyPlaces::for_file(alloc, bytes)?;
     let mut left = file.cells();

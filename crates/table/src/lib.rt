@@ -21,9 +21,6 @@
 #![tactic(auto)]
 
 mod cell_edits;
-mod edited;
-mod file_records;
-mod files;
 mod first_met;
 mod gathering;
 mod key_names;
@@ -31,6 +28,7 @@ mod keyed_cells;
 mod keys;
 mod last_edits;
 mod list_keys;
+mod many;
 mod multiple;
 mod named_texts;
 mod new_texts;
@@ -39,8 +37,6 @@ mod search;
 mod table;
 mod texts_there;
 
-pub use file_records::edited_text;
-pub use files::SeenFile;
 pub use keys::KeyedRecord;
 pub use search::{OfGid, RecordTest};
-pub use table::Table;
+pub use table::{Table, edited_text};

@@ -22,16 +22,21 @@ use line_edits::{ChangedNames, Edit, leaves, touches};
 use std::alloc::{AllocError, Global};
 
 impl<'a, R: KeyedRecord + Drop> KeyedCells<'a, R> {
-    /// The name of the first record that the edits touch and whose name has several records.
+    /// The name of the first record that the edits touch and whose name has several records. Where these
+    /// are many, the index is made.
     pub(crate) fn first_multiple(
-        &self,
+        &mut self,
         alloc: Global,
         edits: &[Edit<R, R::Change>],
     ) -> Result<Option<Bytes>, AllocError>
         requires { AreWritten R.format R.becomes edits.now }
-        ensures { IfOk result (λ name. name ≡ multiple_by R.format R.becomes edits.now
-            (records_of R.format (lines_now self.now))) }
+        ensures name { IfOk result (λ name. name ≡ multiple_by R.format R.becomes edits.now
+            (records_of R.format (lines_now self.old))) }
+        ensures same { self.new ≡ self.old }
     {
+        if self.are_many(edits) {
+            self.index(alloc)?;
+        }
         match self.first_met(alloc, edits)? {
             Some(place) => self.name_met(alloc, edits, place),
             None => Ok(None),

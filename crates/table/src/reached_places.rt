@@ -87,7 +87,7 @@ impl<'a, R: KeyedRecord + Drop> KeyedCells<'a, R> {
             return self.keys.places(alloc, key);
         }
         match R::touched_names(change) {
-            Some(ChangedNames::Each(names)) if self.is_indexed => {
+            Some(ChangedNames::Each(names)) if self.keys.tells() => {
                 Ok(Some(self.places_of_each(alloc, names)?))
             }
             _ => Ok(None),

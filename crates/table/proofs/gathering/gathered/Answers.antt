@@ -19,8 +19,8 @@ cells-preserved g c = λ after widens left.
     ))
 
 -- no cell is left
-pub returns-clause-told : goal.returns-clause-told
-returns-clause-told g c =
+pub returns : goal.returns
+returns g c =
     c.cells.invariant (told_places c.cells.keys) (λ key place told. told)
     (subst (HoldsThere g.R.TableRecord.format
     (IsTold g.R.KeyedRecord.keys (told_places c.cells.keys)))

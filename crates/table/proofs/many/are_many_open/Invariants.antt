@@ -1,5 +1,5 @@
 use Rattle.std.proofs.Common.{◌<◌, length}
-use Rattle.table.proofs.file_records.are_many_open.Given as goal
+use Rattle.table.proofs.many.are_many_open.Given as goal
 
 -- few lines so far
 abbrev pub invariant-lines : goal.invariant-lines
