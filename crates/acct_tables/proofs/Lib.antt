@@ -13,3 +13,10 @@ pub mod BehindLines
 pub mod MarkedRecords
 pub mod FieldMarks
 pub mod HashedNames
+pub mod BegunLines
+pub mod PlacedCells
+pub mod ShownCells
+pub mod MarkedPlaces
+pub mod StandingText
+pub mod PlaceLists
+pub mod FoundPlaces

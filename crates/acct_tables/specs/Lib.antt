@@ -5,3 +5,7 @@ pub mod SeenLines
 pub mod NameIndex
 pub mod Marks
 pub mod NameHashes
+pub mod Cells
+pub mod Kept
+pub mod Texts
+pub mod KeyPlaces

@@ -1,11 +1,11 @@
 // The IDs that users and groups have by their records (passwd(5), group(5)).
 ghost use Rattle.std.specs.Prelude.{◌≡◌, ◌++◌, ℕ, [], map, option_map, IfOk, OnOk};
 ghost use Rattle.std.specs.List.{cons_option};
-ghost use Rattle.account_model.specs.Tables.{table_records};
+ghost use Rattle.acct_text.specs.Lines.{lines_of};
+ghost use Rattle.account_model.specs.Format.{records_of};
 
-use crate::lines::{Lines, text_of};
+use crate::lines::Lines;
 use acct_lines::{GroupLine, GroupRecord, PasswdLine, PasswdRecord, TableRecord};
-use acct_text::Bytes;
 use std::alloc::{AllocError, Global};
 
 /// A record with an ID of its own.
@@ -52,16 +52,13 @@ impl NumberedRecord for GroupRecord {
     }
 }
 
-/// The IDs of all records of the file, in the order of lines.
-pub fn listed_ids<R: NumberedRecord>(
-    alloc: Global,
-    file: &Option<Bytes>,
-) -> Result<Vec<u32>, AllocError>
+/// The IDs of all records of a file with these bytes, in the order of lines.
+pub fn listed_ids<R: NumberedRecord>(alloc: Global, text: &[u8]) -> Result<Vec<u32>, AllocError>
     ensures { IfOk result (λ ids.
-        ids.items ≡ map R.id_of (table_records R.format file.now)) }
+        ids.items ≡ map R.id_of (records_of R.format (lines_of text.now))) }
 {
     let mut ids = Vec::new(alloc);
-    let mut left = Lines::of(text_of(file));
+    let mut left = Lines::of(text);
     'lines: while let Some(line) = left.take() {
         note_id::<R>(&mut ids, line.text)?;
     }

@@ -12,7 +12,7 @@ use crate::report::{Checks, NameRead, Report};
 use crate::sorting::ById;
 use account_model::{GroupRecord, PasswdRecord, ShadowRecord};
 use acct_lines::{PasswdLine, is_valid_name};
-use acct_tables::{NameIndex, listed_ids};
+use acct_tables::{NameIndex, listed_ids, text_of};
 use acct_text::{Files, Tab};
 use command_values::Asked;
 use id_choice::UsedIds;
@@ -49,7 +49,10 @@ fn report_users(
     let mut names = NameIndex::new(alloc);
     let lines = HashLines::of(alloc, &files.shadow, &mut names)?;
     let mut hashes = NamedFile::with::<ShadowRecord>(&files.shadow, names);
-    let gids = UsedIds::of(alloc, listed_ids::<GroupRecord>(alloc, &files.group)?)?;
+    let gids = UsedIds::of(
+        alloc,
+        listed_ids::<GroupRecord>(alloc, text_of(&files.group))?,
+    )?;
     let known = UserChecks {
         hashes: &hashes,
         groups: &files.group,

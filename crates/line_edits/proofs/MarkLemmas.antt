@@ -23,7 +23,7 @@ use Rattle.account_model.specs.declared.records.PasswdRecord.{PasswdRecord}
 use Rattle.account_model.proofs.NamingLaws.{group-names_first, gshadow-names_first}
 use Rattle.account_model.proofs.ReadsLaws.{group-is, gshadow-is}
 use Rattle.account_model.specs.Members.{without_name}
-use Rattle.acct_tables.specs.Marks.{Holds, IsWithout, IsWithoutAll, marks_in}
+use Rattle.acct_tables.specs.Marks.{HoldsMark, IsWithout, IsWithoutAll, marks_in}
 use Rattle.acct_tables.specs.declared.marks.Marks.{Marks}
 use Rattle.acct_tables.proofs.FieldMarks.{holds-primary, holds-self, joined-first, joined-rest}
 use Rattle.acct_tables.proofs.MarkedRecords.{unnamed}
@@ -60,14 +60,14 @@ other-record format first name line r read without =
 listed-holds :
     (name : List ℕ) (pieces : List (List ℕ))
     → is_listed name (nonempty pieces) ≡ true
-    → Holds name (join_with_byte comma pieces)
+    → HoldsMark name (join_with_byte comma pieces)
 listed-holds name [] listed = absurd cc
 listed-holds name ([] ∷ rest) listed =
     joined-rest name comma [] rest (listed-holds name rest listed)
 listed-holds name ((byte ∷ piece) ∷ rest) listed =
     elim (cases_Bool (bytes_eq name (byte ∷ piece))) [
       | inl same ↦ joined-first name comma (byte ∷ piece) rest
-          (subst (Holds name) ((bytes_eq-Decides name (byte ∷ piece)).0 same) (holds-self name))
+          (subst (HoldsMark name) ((bytes_eq-Decides name (byte ∷ piece)).0 same) (holds-self name))
       | inr other ↦ joined-rest name comma (byte ∷ piece) rest (listed-holds name rest
           (sym (ap (λ test. test || is_listed name (nonempty rest)) other) ∙ listed))
     ]
@@ -79,7 +79,7 @@ unlisted :
     → IsWithout name text
     → is_listed name names ≡ false
 unlisted name text names are without = elim (cases_Bool (is_listed name names)) [
-  | inl listed ↦ absurd (without (subst (Holds name) are.cut.joined
+  | inl listed ↦ absurd (without (subst (HoldsMark name) are.cut.joined
       (listed-holds name are.pieces (sym (ap (is_listed name) are.dropped) ∙ listed))))
   | inr none ↦ none
 ]
@@ -114,7 +114,7 @@ module _ (user line : List ℕ) (without : IsWithout user line) where
     unlisted-group =
         let reads = group-is line group read in
         unlisted user reads.members group.members reads.members_read
-        (λ holds. without (subst (Holds user) reads.cut.joined
+        (λ holds. without (subst (HoldsMark user) reads.cut.joined
         (joined-rest user colon group.name (group.password ∷ reads.gid ∷ reads.members ∷ [])
         (joined-rest user colon group.password (reads.gid ∷ reads.members ∷ [])
         (joined-rest user colon reads.gid (reads.members ∷ []) holds)))))
@@ -129,7 +129,7 @@ module _ (user line : List ℕ) (without : IsWithout user line) where
     unlisted-administrator =
         let reads = gshadow-is line group read in
         unlisted user reads.administrators group.administrators reads.administrators_read
-        (λ holds. without (subst (Holds user) reads.cut.joined
+        (λ holds. without (subst (HoldsMark user) reads.cut.joined
         (joined-rest user colon group.name
         (group.password ∷ reads.administrators ∷ reads.members ∷ [])
         (joined-rest user colon group.password (reads.administrators ∷ reads.members ∷ [])
@@ -140,7 +140,7 @@ module _ (user line : List ℕ) (without : IsWithout user line) where
     unlisted-gshadow =
         let reads = gshadow-is line group read in
         unlisted user reads.members group.members reads.members_read
-        (λ holds. without (subst (Holds user) reads.cut.joined
+        (λ holds. without (subst (HoldsMark user) reads.cut.joined
         (joined-rest user colon group.name
         (group.password ∷ reads.administrators ∷ reads.members ∷ [])
         (joined-rest user colon group.password (reads.administrators ∷ reads.members ∷ [])
@@ -218,7 +218,7 @@ other-primary :
     → IsWithout (decimal gid) line
     → (user.gid == gid) ≡ false
 other-primary gid line user read without = elim (cases_Bool (user.gid == gid)) [
-  | inl same ↦ absurd (without (subst (λ number. Holds (decimal number) line)
+  | inl same ↦ absurd (without (subst (λ number. HoldsMark (decimal number) line)
       (eqb-true user.gid gid same) (holds-primary line user read)))
   | inr other ↦ other
 ]

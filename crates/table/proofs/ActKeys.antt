@@ -18,7 +18,7 @@ use Rattle.line_edits.specs.declared.memberships.Membership.{Membership}
 use Rattle.line_edits.specs.declared.memberships.UserGroups.{UserGroups}
 use Rattle.line_edits.specs.declared.memberships.UserGroups.TheVariants.{Also, Kept, Only}
 use Rattle.line_edits.proofs.LeftLemmas.{neither}
-use Rattle.table.specs.KeyPlaces.{has_key}
+use Rattle.acct_tables.specs.KeyPlaces.{has_key}
 use Rattle.table.specs.Keys.{either_name, group_given, group_keys, gshadow_given, gshadow_keys, name_keys, own_key}
 use Rattle.table.proofs.MemberKeys.{PassesOnly, either-passes, keys-of-names, is_key_of, renamed-passed, with-passed, without-passed}
 

@@ -12,7 +12,7 @@ use Rattle.line_edits.specs.declared.group_changes.GroupChange.{GroupChange}
 use Rattle.line_edits.specs.declared.group_changes.GroupChange.TheVariants.{All as AllGroups, Named as NamedGroup, Remove as RemoveGroup}
 use Rattle.line_edits.specs.declared.gshadow_changes.GshadowChange.{GshadowChange}
 use Rattle.line_edits.specs.declared.gshadow_changes.GshadowChange.TheVariants.{All as AllGshadows, Named as NamedGshadow, Remove as RemoveGshadow}
-use Rattle.table.specs.KeyPlaces.{has_key}
+use Rattle.acct_tables.specs.KeyPlaces.{has_key}
 use Rattle.table.specs.Keys.{BringsOnly, group_brought, group_given, group_keys, gshadow_brought, gshadow_given, gshadow_keys}
 use Rattle.table.proofs.ActKeys.{group-kept, gshadow-kept}
 

@@ -14,8 +14,8 @@ use Rattle.account_model.specs.Format.{Format}
 use Rattle.account_model.specs.Ids.{is_used}
 use Rattle.account_model.specs.RecordEdits.{TellsSame}
 use Rattle.line_edits.proofs.ChangedLines.{left-line}
-use Rattle.table.specs.Cells.{cell_lines, lines_now}
-use Rattle.table.specs.declared.cell.Cell.{Cell}
+use Rattle.acct_tables.specs.Cells.{cell_lines, lines_now}
+use Rattle.acct_tables.specs.declared.cell.Cell.{Cell}
 use Rattle.table.specs.Changed.{changed_cell, changed_there, text_becomes, text_instead, texts_becoming}
 use Rattle.table.specs.TableCells.{HoldsOf, HoldsThere, IsSound}
 use Rattle.table.proofs.PlaceLemmas.{used-apart, used-itself}

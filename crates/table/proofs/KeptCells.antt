@@ -15,9 +15,9 @@ use Rattle.acct_text.proofs.LinesLaws.{lines_of-are}
 use Rattle.acct_text.specs.Pieces.{Lacks}
 use Rattle.account_model.specs.Edits.{as_ended, with_line}
 use Rattle.account_model.specs.Format.{Format}
-use Rattle.table.specs.Cells.{ArePlaced, cell_at, cell_lines, cells_from, ended_cell, lines_now, text_added, texts_put, with_texts}
-use Rattle.table.specs.declared.cell.Cell.{Cell}
-use Rattle.table.specs.KeyPlaces.{Widens}
+use Rattle.acct_tables.specs.Cells.{ArePlaced, cell_at, cell_lines, cells_from, ended_cell, lines_now, text_added, texts_put, with_texts}
+use Rattle.acct_tables.specs.declared.cell.Cell.{Cell}
+use Rattle.acct_tables.specs.KeyPlaces.{Widens}
 use Rattle.table.specs.Changed.{changed_cell, changed_there, texts_becoming}
 use Rattle.table.specs.TableCells.{AreKept, HoldsIn, HoldsOf, HoldsThere, IsSound, IsKeyed}
 use Rattle.table.proofs.ChangedTexts.{line_with}

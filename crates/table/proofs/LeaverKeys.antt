@@ -19,7 +19,7 @@ use Rattle.line_edits.specs.declared.gshadow_changes.GshadowAct.TheVariants.{Rem
 use Rattle.line_edits.specs.declared.gshadow_changes.GshadowChange.TheVariants.{All as AllGshadows}
 use Rattle.line_edits.specs.declared.memberships.Membership.{Membership}
 use Rattle.line_edits.proofs.LeftLemmas.{left-group, left-gshadow, neither, without-unlisted}
-use Rattle.table.specs.KeyPlaces.{has_key}
+use Rattle.acct_tables.specs.KeyPlaces.{has_key}
 use Rattle.table.specs.Keys.{IsGroupLeaver, IsGshadowLeaver, IsLeaver, Needs, group_keys, gshadow_keys, name_keys, own_key}
 use Rattle.table.proofs.MemberKeys.{keyless-unlisted}
 

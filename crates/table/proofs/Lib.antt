@@ -12,16 +12,9 @@ pub mod MetRecords
 pub mod NamedPlaces
 pub mod ReachedNames
 pub mod SettledEdits
-pub mod PlacedCells
-pub mod BegunLines
-pub mod ShownCells
-pub mod MarkedPlaces
-pub mod StandingText
-pub mod PlaceLists
 pub mod NoteLemmas
 pub mod MemberKeys
 pub mod ActKeys
 pub mod ChangeKeys
 pub mod LeaverKeys
 pub mod OwnKeys
-pub mod FoundPlaces

@@ -13,7 +13,7 @@ use Rattle.account_model.specs.Members.{in_place_of, name_once, renamed_in, with
 use Rattle.acct_tables.specs.NameHashes.{name_hash}
 use Rattle.line_edits.proofs.LeftLemmas.{neither}
 use Rattle.table.specs.Keys.{name_keys}
-use Rattle.table.specs.KeyPlaces.{has_key}
+use Rattle.acct_tables.specs.KeyPlaces.{has_key}
 
 -- of two tests one passes where one of two others does, of which each follows
 pub either-passes :

@@ -15,8 +15,8 @@ use Rattle.account_model.specs.Ids.{is_used}
 use Rattle.account_model.specs.RecordEdits.{TellsSame}
 use Rattle.line_edits.specs.Touching.{is_met, touches_alone}
 use Rattle.line_edits.proofs.TouchedEdits.{first-or}
-use Rattle.table.specs.Cells.{ArePlaced, cell_at, lines_now}
-use Rattle.table.specs.declared.cell.Cell.{Cell}
+use Rattle.acct_tables.specs.Cells.{ArePlaced, cell_at, lines_now}
+use Rattle.acct_tables.specs.declared.cell.Cell.{Cell}
 use Rattle.table.specs.Accepting.{is_accepted}
 use Rattle.table.specs.Met.{MeetsAt, earlier, first_in, has_met, meets}
 use Rattle.table.specs.TableCells.{IsSound, has_in, records_read}
@@ -116,7 +116,8 @@ module _ {R : Type 0} (format : Format R) (test : R → Bool) where
   -- the first of all is that of the first cell that has one
   first-texts :
       (cells : List Cell)
-      → find test (records_read format (texts_in cells)) ≡ first_of (find (has_in format test) cells)
+      → find test (records_read format (texts_in cells)) ≡ first_of (find
+      (has_in format test) cells)
   first-texts [] = refl
   first-texts (cell ∷ cells) =
       let here = records_read format cell.texts in

@@ -9,9 +9,9 @@ use Rattle.std.proofs.lemmas.Bool.{cases_Bool, cases_eq, eq-eqb, eqb-true, false
 use Rattle.std.proofs.lemmas.Slice.Eq.{bytes_eq-Decides}
 use Rattle.account_model.specs.Format.{Format, has_named, is_named, records_of}
 use Rattle.account_model.specs.Ids.{is_used}
-use Rattle.table.specs.Cells.{ArePlaced, cell_at, lines_now}
-use Rattle.table.specs.declared.cell.Cell.{Cell}
-use Rattle.table.specs.KeyPlaces.{has_key}
+use Rattle.acct_tables.specs.Cells.{ArePlaced, cell_at, lines_now}
+use Rattle.acct_tables.specs.declared.cell.Cell.{Cell}
+use Rattle.acct_tables.specs.KeyPlaces.{has_key}
 use Rattle.table.specs.Keys.{HaveOwnKeys, own_key}
 use Rattle.table.specs.TableCells.{AreKept, HoldsIn, IsKeyed, has_named_at, has_named_in}
 use Rattle.table.proofs.PutRecords.{first-at, has-cells, reached-by, some-found}
@@ -148,8 +148,8 @@ module _ {R : Type 0} (format : Format R) where
       (All-weaker (λ cell. HoldsIn format
       (λ r. is_named format name r ≡ true → is_used places cell.place ≡ true) cell)
       (λ cell. has_named_in format name cell ≡ true → is_used places cell.place ≡ true)
-      (λ cell here has. 
-          reached-by format (is_named format name) places cell.place cell.texts here has) cells
+      (λ cell here has. reached-by format
+      (is_named format name) places cell.place cell.texts here has) cells
       (there-weaker format (IsKeyed keys_of told)
       (λ place r. is_named format name r ≡ true → is_used places place ≡ true)
       (λ place r tells named.

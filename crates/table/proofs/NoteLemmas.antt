@@ -9,8 +9,8 @@ use Rattle.account_model.specs.Text.{nonempty}
 use Rattle.acct_lines.proofs.NamesCut.{pushed-piece}
 use Rattle.acct_tables.specs.NameHashes.{name_hash}
 use Rattle.table.specs.Keys.{name_keys}
-use Rattle.table.specs.KeyPlaces.{NotesOf, has_key}
-use Rattle.table.specs.declared.key_places.Spot.{Spot}
+use Rattle.acct_tables.specs.KeyPlaces.{NotesOf, has_key}
+use Rattle.acct_tables.specs.declared.key_places.Spot.{Spot}
 
 module _ (spot : Spot) (before between after : ℕ → Option (List ℕ)) where
   -- by some keys, and then by more

@@ -4,9 +4,9 @@ use Rattle.std.proofs.Common.{◌≡◌, ◌∙◌, ℕ, List, [], ◌∷◌, re
 use Rattle.std.specs.Prelude.{Option, None, Some}
 use Rattle.account_model.specs.Format.{Format}
 use Rattle.account_model.specs.Naming.{NamesFirst, first_field}
-use Rattle.table.specs.KeyPlaces.{NotesOf}
+use Rattle.acct_tables.specs.KeyPlaces.{NotesOf}
 use Rattle.table.specs.Keys.{keys_in, own_key}
-use Rattle.table.specs.declared.key_places.Spot.{Spot}
+use Rattle.acct_tables.specs.declared.key_places.Spot.{Spot}
 
 module _ {R : Type 0} (format : Format R) (keys_of : R → List ℕ) (names_first : NamesFirst format)
     (alone : (r : R) → keys_of r ≡ own_key (format.name r) ∷ []) (line : List ℕ)

@@ -7,8 +7,8 @@ use Rattle.std.specs.List.{AllByRecursion, cons_option}
 use Rattle.std.proofs.ByRecursion.{All-from_get_or, All-weaker}
 use Rattle.std.proofs.lemmas.Bool.{cases_Bool, cases_eq, eq-eqb, eqb-true, ne_eqb, or_cases}
 use Rattle.account_model.specs.Ids.{is_used}
-use Rattle.table.specs.Cells.{ArePlaced, cell_at}
-use Rattle.table.specs.declared.cell.Cell.{Cell}
+use Rattle.acct_tables.specs.Cells.{ArePlaced, cell_at}
+use Rattle.acct_tables.specs.declared.cell.Cell.{Cell}
 use Rattle.table.specs.TableCells.{cells_there}
 
 -- ---- Pairs

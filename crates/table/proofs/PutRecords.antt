@@ -13,8 +13,8 @@ use Rattle.account_model.specs.Edits.{line_becomes, put_first}
 use Rattle.account_model.specs.Format.{Format, has_named, is_named, records_of}
 use Rattle.account_model.specs.Ids.{is_used}
 use Rattle.acct_tables.specs.TableLines.{text_is_named}
-use Rattle.table.specs.Cells.{ArePlaced, cell_at, cell_lines, lines_now, texts_put, with_texts}
-use Rattle.table.specs.declared.cell.Cell.{Cell}
+use Rattle.acct_tables.specs.Cells.{ArePlaced, cell_at, cell_lines, lines_now, texts_put, with_texts}
+use Rattle.acct_tables.specs.declared.cell.Cell.{Cell}
 use Rattle.table.specs.Accepting.{is_accepted}
 use Rattle.table.specs.Changed.{text_instead, texts_with}
 use Rattle.table.specs.Met.{first_in}

@@ -16,9 +16,9 @@ use Rattle.account_model.specs.Ids.{is_used}
 use Rattle.account_model.specs.RecordEdits.{TellsSame}
 use Rattle.acct_tables.specs.Marks.{IsWithoutAll}
 use Rattle.line_edits.specs.Naming.{AreMarksOf}
-use Rattle.table.specs.Cells.{AreMarked, ArePlaced, IsMarkless, lines_now}
-use Rattle.table.specs.declared.cell.Cell.{Cell}
-use Rattle.table.specs.KeyPlaces.{ArePlacesOf, has_key}
+use Rattle.acct_tables.specs.Cells.{AreMarked, ArePlaced, IsMarkless, lines_now}
+use Rattle.acct_tables.specs.declared.cell.Cell.{Cell}
+use Rattle.acct_tables.specs.KeyPlaces.{ArePlacesOf, has_key}
 use Rattle.table.specs.Keys.{HaveOwnKeys, own_key}
 use Rattle.table.specs.Changed.{changed_there}
 use Rattle.table.specs.TableCells.{AreKept, HoldsIn, HoldsOf, HoldsThere, IsSound, IsKeyed, Reaches, TouchesAt}

@@ -10,10 +10,10 @@ use Rattle.std.proofs.lemmas.List.Folds.{list_any-append}
 use Rattle.account_model.specs.Format.{Format, is_named}
 use Rattle.account_model.specs.Ids.{is_used}
 use Rattle.account_model.specs.Text.{is_listed}
-use Rattle.table.specs.Cells.{ArePlaced}
-use Rattle.table.specs.declared.cell.Cell.{Cell}
-use Rattle.table.specs.KeyPlaces.{ArePlacesOf}
-use Rattle.table.proofs.FoundPlaces.{found-places}
+use Rattle.acct_tables.specs.Cells.{ArePlaced}
+use Rattle.acct_tables.specs.declared.cell.Cell.{Cell}
+use Rattle.acct_tables.specs.KeyPlaces.{ArePlacesOf}
+use Rattle.acct_tables.proofs.FoundPlaces.{found-places}
 use Rattle.table.specs.TableCells.{IsSound, Reaches, ReachesNames}
 use Rattle.table.proofs.ReachLemmas.{there-all, there-both, there-weaker}
 
@@ -51,7 +51,8 @@ module _ {R : Type 0} (format : Format R) (cells : List Cell) where
       ∙ elim (cases_Bool (is_listed (format.name r) names)) [
         | inl is ↦ or_left (is_used places place) (is_used found place) (before is)
         | inr isnt ↦ or_right (is_used places place) (is_used found place) (here
-            (last-has (is_listed (format.name r) names) (bytes_eq (format.name r) name) isnt either))
+            (last-has (is_listed (format.name r) names) (bytes_eq
+            (format.name r) name) isnt either))
       ])
       cells so_far reached.all
 

@@ -10,8 +10,8 @@ use Rattle.std.proofs.lemmas.List.Sums.{length-filter}
 use Rattle.acct_text.specs.Lines.{Line}
 use Rattle.account_model.specs.Format.{Format, records_of}
 use Rattle.account_model.specs.Ids.{is_used}
-use Rattle.table.specs.Cells.{ArePlaced, lines_now}
-use Rattle.table.specs.declared.cell.Cell.{Cell}
+use Rattle.acct_tables.specs.Cells.{ArePlaced, lines_now}
+use Rattle.acct_tables.specs.declared.cell.Cell.{Cell}
 use Rattle.table.specs.TableCells.{HoldsOf, HoldsThere, Reaches, records_read, texts_there}
 use Rattle.table.proofs.PlaceLemmas.{there-used, used_cells}
 

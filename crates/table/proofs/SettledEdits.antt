@@ -18,9 +18,9 @@ use Rattle.line_edits.specs.SeenEdits.{seen_edit}
 use Rattle.line_edits.specs.Touching.{is_met, touches_alone}
 use Rattle.line_edits.specs.declared.edit.Edit.{Edit}
 use Rattle.line_edits.proofs.TouchedEdits.{left-untouched}
-use Rattle.table.specs.Cells.{lines_now}
-use Rattle.table.specs.declared.cell.Cell.{Cell}
-use Rattle.table.specs.KeyPlaces.{has_key}
+use Rattle.acct_tables.specs.Cells.{lines_now}
+use Rattle.acct_tables.specs.declared.cell.Cell.{Cell}
+use Rattle.acct_tables.specs.KeyPlaces.{has_key}
 use Rattle.table.specs.Accepting.{is_accepted}
 use Rattle.table.specs.FirstMet.{AreAsked, IsSettled, MeetsNoEarlier, NeedsKey, StandsNoEarlier}
 use Rattle.table.specs.LastEdits.{HoldsOfLast, IsOneOf}
@@ -259,7 +259,8 @@ module _ {R : Type 0} (format : Format R) where
       settled-no_earlier tells edit met asked (inr needs) =
           both-there (StandsNoEarlier format keys_of cells met.place) (NeedsKey keys_of edit)
           (MeetsNoEarlier format cells met.place edit) met.key
-          (λ key stands needs. key-no_earlier tells edit met.place key needs stands) asked.by_key needs
+          (λ key stands needs. key-no_earlier tells edit met.place key needs stands) asked.by_key
+          needs
 
       -- what was asked about stays so as one more edit is
       pub asked-after :

@@ -4,7 +4,7 @@ use Rattle.std.specs.Prelude.{◌≡◌, ℕ, Bool, true, false, List, Option, N
 use Rattle.std.specs.Fmt.{decimal}
 use Rattle.account_model.specs.Format.{Format}
 use Rattle.acct_tables.specs.Marks.{IsWithout}
-use Rattle.table.specs.KeyPlaces.{has_key}
+use Rattle.acct_tables.specs.KeyPlaces.{has_key}
 
 -- whether there is a record, and the test accepts it
 abbrev pub is_accepted : {R : Type 0} → (R → Bool) → Option R → Bool

@@ -4,8 +4,8 @@ use Rattle.std.specs.Prelude.{ℕ, List, [], ◌∷◌, flat_map, map, None, Som
 use Rattle.account_model.specs.Format.{Format}
 use Rattle.account_model.specs.Ids.{is_used}
 use Rattle.acct_tables.specs.TableLines.{text_is_named}
-use Rattle.table.specs.Cells.{with_texts}
-use Rattle.table.specs.declared.cell.Cell.{Cell}
+use Rattle.acct_tables.specs.Cells.{with_texts}
+use Rattle.acct_tables.specs.declared.cell.Cell.{Cell}
 
 -- the text of a record with another in its place, which keeps its bytes where both are the same
 abbrev pub text_instead : {R : Type 0} → Format R → List ℕ → R → R → List ℕ

@@ -5,8 +5,8 @@ use Rattle.account_model.specs.Edits as model
 use Rattle.account_model.specs.Edits.Edit.{Become}
 use Rattle.account_model.specs.Format.{Format}
 use Rattle.line_edits.specs.declared.edit.Edit.{Edit}
-use Rattle.table.specs.declared.cell.Cell.{Cell}
-use Rattle.table.specs.KeyPlaces.{has_key}
+use Rattle.acct_tables.specs.declared.cell.Cell.{Cell}
+use Rattle.acct_tables.specs.KeyPlaces.{has_key}
 use Rattle.table.specs.Keys.{Needs}
 use Rattle.table.specs.LastEdits.{HoldsOfLast, IsOneOf}
 use Rattle.table.specs.Met.{earlier, first_in, has_met}

@@ -29,7 +29,7 @@ use Rattle.line_edits.specs.declared.shadow_changes.ShadowChange.TheVariants.{Na
 use Rattle.line_edits.specs.declared.subid_changes.SubidChange.{SubidChange}
 use Rattle.line_edits.specs.declared.subid_changes.SubidChange.TheVariants.{Cut as CutRanges, Remove as RemoveOwner, Rename as RenameOwner}
 use Rattle.line_edits.specs.Memberships.{joins}
-use Rattle.table.specs.KeyPlaces.{has_key}
+use Rattle.acct_tables.specs.KeyPlaces.{has_key}
 
 -- ---- Whose keys they are
 

@@ -1,4 +1,3 @@
-pub mod Standing
 pub mod Accepting
 pub mod TableEdits
 pub mod TableCells
@@ -6,9 +5,5 @@ pub mod Met
 pub mod LastEdits
 pub mod FirstMet
 pub mod Changed
-pub mod Cells
-pub mod Kept
-pub mod Texts
-pub mod KeyPlaces
 pub mod Keys
 pub mod OwnKeys

@@ -4,8 +4,8 @@ use Rattle.std.specs.Prelude.{◌≡◌, ℕ, Bool, false, List, [], ◌∷◌, 
 use Rattle.account_model.specs.Edits as model
 use Rattle.account_model.specs.Format.{Format, is_named, records_of}
 use Rattle.line_edits.specs.Touching.{is_met, touches_alone}
-use Rattle.table.specs.Cells.{lines_now}
-use Rattle.table.specs.declared.cell.Cell.{Cell}
+use Rattle.acct_tables.specs.Cells.{lines_now}
+use Rattle.acct_tables.specs.declared.cell.Cell.{Cell}
 use Rattle.table.specs.Accepting.{is_accepted}
 use Rattle.table.specs.TableCells.{Reaches, has_in}
 

@@ -4,7 +4,7 @@ use Rattle.std.specs.Prelude.{◌≡◌, ◌||◌, ℕ, true, List, [], ◌∷�
 use Rattle.std.proofs.Common.{ap}
 use Rattle.std.proofs.lemmas.Bool.{eq-eqb}
 use Rattle.account_model.specs.Records.{group_format, gshadow_format, passwd_format, shadow_format, subid_format}
-use Rattle.table.specs.KeyPlaces.{has_key}
+use Rattle.acct_tables.specs.KeyPlaces.{has_key}
 use Rattle.table.specs.Keys.{HaveOwnKeys, group_keys, gshadow_keys, name_keys, own_key, shadow_keys, subid_keys, user_keys}
 
 -- keys have the first of them

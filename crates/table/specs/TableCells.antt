@@ -8,9 +8,9 @@ use Rattle.account_model.specs.Format.{Format}
 use Rattle.account_model.specs.Ids.{is_used}
 use Rattle.account_model.specs.Text.{is_listed}
 use Rattle.acct_tables.specs.TableLines.{text_is_named}
-use Rattle.table.specs.Cells.{ArePlaced, cell_at}
-use Rattle.table.specs.declared.cell.Cell.{Cell}
-use Rattle.table.specs.KeyPlaces.{MayBeAt, has_key}
+use Rattle.acct_tables.specs.Cells.{ArePlaced, cell_at}
+use Rattle.acct_tables.specs.declared.cell.Cell.{Cell}
+use Rattle.acct_tables.specs.KeyPlaces.{MayBeAt, has_key}
 use Rattle.table.specs.Accepting.{is_accepted}
 
 -- ---- Records in places

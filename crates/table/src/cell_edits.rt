@@ -7,14 +7,14 @@ ghost use Rattle.account_model.specs.Format.{has_named, records_of};
 ghost use Rattle.account_model.specs.RecordEdits.{IsWrittenEdit};
 ghost use Rattle.account_model.specs.Written.{IsWritten};
 ghost use Rattle.line_edits.specs.SeenEdits.{seen_edit};
-ghost use Rattle.table.specs.Cells.{lines_now};
+ghost use Rattle.acct_tables.specs.Cells.{lines_now};
 ghost use Rattle.table.specs.Changed.{changed_there};
 ghost use Rattle.table.specs.TableCells.{cells_there, has_named_in};
 
-use crate::key_places::Spot;
 use crate::keyed_cells::KeyedCells;
 use crate::keys::KeyedRecord;
 use crate::new_texts::{are_left, changed_texts, texts_with};
+use acct_tables::Spot;
 use line_edits::Edit;
 use std::alloc::{AllocError, Global};
 

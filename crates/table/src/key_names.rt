@@ -4,12 +4,11 @@ ghost use Rattle.std.specs.Prelude.{◌≡◌, ◌∷◌, []};
 ghost use Rattle.account_model.specs.Naming.{first_field as first_of};
 ghost use Rattle.account_model.specs.Records.{read_names};
 ghost use Rattle.account_model.specs.Text.{nonempty};
-ghost use Rattle.table.specs.KeyPlaces.{NotesOf, told_places};
+ghost use Rattle.acct_tables.specs.KeyPlaces.{NotesOf, told_places};
 ghost use Rattle.table.specs.Keys.{name_keys, own_given, own_key};
 
-use crate::key_places::{KeyPlaces, Spot};
 use acct_lines::first_field;
-use acct_tables::name_hash;
+use acct_tables::{KeyPlaces, Spot, name_hash};
 use acct_text::{Bytes, Names, cut_once};
 
 /// Notes that a record there has these names.

@@ -1,27 +1,26 @@
 // The lines of a table's file with an index of where records may have a key: what is found in them
 // (passwd(5), shadow(5), group(5), gshadow(5), subuid(5), subgid(5)). A look-up reads the texts in the
 // places that the index tells of its key, as no other text is a record with the key.
-ghost use Rattle.std.specs.Prelude.{◌≡◌, filter, find, nat_le, IfOk};
+ghost use Rattle.std.specs.Prelude.{◌≡◌, filter, find, nat_le, IfOk, IfSome, OnOk};
 ghost use Rattle.std.specs.List.{list_any};
 ghost use Rattle.acct_text.specs.Lines.{file_bytes, lines_of};
 ghost use Rattle.account_model.specs.Format.{count_named, find_named, has_named, is_named, records_of};
 ghost use Rattle.acct_tables.specs.SeenLines.{AreOfFile};
-ghost use Rattle.table.specs.Cells.{cells_from, lines_now};
+ghost use Rattle.acct_tables.specs.Cells.{cells_from, lines_now};
 ghost use Rattle.table.specs.TableCells.{has_named_at};
 
-use crate::file::LineFile;
-use crate::file_text::FileText;
 use crate::gathering::gathered;
 use crate::key_names::own_key;
-use crate::key_places::KeyPlaces;
 use crate::keys::KeyedRecord;
 use crate::named_texts::{
     all_named, are_several_named, first_accepted, first_named, has_in_one, has_named,
 };
-use crate::place_lists::ListedPlaces;
 use crate::search::{RecordTest, first_passing};
 use crate::texts_there::TextsThere;
-use acct_tables::read_record;
+use acct_tables::{
+    FileText, KeyPlaces, LineFile, ListedPlaces, find_record, has_record, has_several_records,
+    read_record,
+};
 use acct_text::Bytes;
 use std::alloc::{AllocError, Global};
 use std::marker::{Model, PhantomData};
@@ -31,8 +30,6 @@ use std::marker::{Model, PhantomData};
 pub(crate) struct KeyedCells<'a, R: KeyedRecord> {
     pub(crate) file: LineFile<'a>,
     pub(crate) keys: KeyPlaces,
-    // whether the index tells of the records, as it does unless it lacks memory
-    pub(crate) is_indexed: bool,
     // so many bytes had the file
     bytes: usize,
     // edits came to so many places by keys
@@ -46,7 +43,6 @@ impl<'a, R: KeyedRecord + Drop> Drop for KeyedCells<'a, R> {
         let KeyedCells {
             file: _,
             keys: _,
-            is_indexed: _,
             bytes: _,
             worn: _,
             record: _,
@@ -56,8 +52,8 @@ impl<'a, R: KeyedRecord + Drop> Drop for KeyedCells<'a, R> {
 
 impl<'a, R: KeyedRecord> Model for KeyedCells<'a, R> {
     ghost use Rattle.std.specs.Prelude.{List};
-    ghost use Rattle.table.specs.declared.cell.Cell.{Cell};
-    ghost use Rattle.table.specs.KeyPlaces.{told_places};
+    ghost use Rattle.acct_tables.specs.declared.cell.Cell.{Cell};
+    ghost use Rattle.acct_tables.specs.KeyPlaces.{told_places};
     ghost use Rattle.table.specs.TableCells.{AreKept};
 
     ghost Value = { List Cell };
@@ -68,72 +64,95 @@ impl<'a, R: KeyedRecord> Model for KeyedCells<'a, R> {
 }
 
 impl<'a, R: KeyedRecord + Drop> KeyedCells<'a, R> {
-    /// The lines of a file with these bytes, and the index of them, in one pass.
-    pub(crate) fn of(alloc: Global, text: FileText<'a>) -> Result<Self, AllocError>
-        ensures { IfOk result (λ cells. cells ≡ cells_from 0 (lines_of text.entry)) }
+    /// The lines of a file with these bytes, of which nothing is looked at: a call takes a pass over them.
+    pub(crate) fn of(alloc: Global, text: FileText<'a>) -> Self
+        ensures { result ≡ cells_from 0 (lines_of text.entry) }
     {
         let bytes = text.as_slice().len();
-        let file = LineFile::of(alloc, text);
-        let keys = gathered::<R>(alloc, &file, bytes)?;
-        Ok(KeyedCells {
-            file,
-            keys,
-            is_indexed: true,
-            bytes,
-            worn: 0,
-            record: PhantomData,
-        })
-    }
-
-    /// The lines without an index, of which nothing is looked at: a call takes a pass over them.
-    pub(crate) fn untold(alloc: Global, text: FileText<'a>) -> Result<Self, AllocError>
-        ensures { IfOk result (λ cells. cells ≡ cells_from 0 (lines_of text.entry)) }
-    {
-        let bytes = text.as_slice().len();
-        Ok(KeyedCells {
+        KeyedCells {
             file: LineFile::of(alloc, text),
-            keys: KeyPlaces::untold(alloc)?,
-            is_indexed: false,
+            keys: KeyPlaces::untold(alloc),
             bytes,
             worn: 0,
             record: PhantomData,
-        })
-    }
-
-    /// The lines, with an index or without.
-    pub(crate) fn made(
-        alloc: Global,
-        text: FileText<'a>,
-        is_indexed: bool,
-    ) -> Result<Self, AllocError>
-        ensures { IfOk result (λ cells. cells ≡ cells_from 0 (lines_of text.entry)) }
-    {
-        if is_indexed {
-            KeyedCells::of(alloc, text)
-        } else {
-            KeyedCells::untold(alloc, text)
         }
     }
 
-    /// Whether it is time to make the lines anew before the next edit: without an index after each one, as
-    /// marks tell places in a text; with one now and then, without the places where no text is left. That
-    /// takes no longer than the edits by keys did that came to places since the lines were made.
-    pub(crate) fn is_worn(&self) -> bool {
-        (!self.is_indexed && !self.file.is_kept()) || self.worn > self.bytes / 64 + 64
-    }
-
-    /// The bytes of the lines, one behind the other.
-    pub(crate) fn text(&self) -> Result<Bytes, AllocError>
-        ensures { IfOk result (λ bytes. bytes ≡ file_bytes (lines_now self.now)) }
+    /// Makes the index, in one pass, unless there is one.
+    pub(crate) fn index(&mut self, alloc: Global) -> Result<(), AllocError>
+        ensures { self.new ≡ self.old }
     {
-        self.file.text()
+        if self.keys.tells() {
+            return Ok(());
+        }
+        let keys = gathered::<R>(alloc, &self.file, self.bytes)?;
+        self.keys = keys;
+        Ok(())
     }
 
-    /// The first record that has the name. It takes no pass over the lines.
+    /// Makes the lines anew from their bytes where it is time: without an index after each edit, as marks
+    /// tell places in a text; with one now and then, without the places where no text is left. That takes
+    /// no longer than the edits by keys did that came to places since the lines were made.
+    pub(crate) fn renew(&mut self, alloc: Global) -> Result<(), AllocError>
+        ensures { OnOk result
+            (AreOfFile (lines_now self.old) → lines_now self.new ≡ lines_now self.old) }
+    {
+        if !self.is_worn() {
+            return Ok(());
+        }
+        let text = self.seen()?.into_bytes(alloc)?;
+        let mut made = KeyedCells::of(alloc, FileText::own(text));
+        if self.keys.tells() {
+            made.index(alloc)?;
+        }
+        *self = made;
+        Ok(())
+    }
+
+    // Whether texts were put or added, and so often that the lines are made anew.
+    fn is_worn(&self) -> bool {
+        self.file.kept_text().is_none() && (!self.keys.tells() || self.worn > self.bytes / 64 + 64)
+    }
+
+    /// The bytes of the lines, one behind the other, lent where they are kept.
+    pub(crate) fn seen(&self) -> Result<FileText<'_>, AllocError>
+        ensures { IfOk result (λ text. text ≡ file_bytes (lines_now self.now)) }
+    {
+        self.file.seen()
+    }
+
+    /// The same bytes, given away.
+    pub(crate) fn into_bytes(self) -> Result<Bytes, AllocError>
+        ensures { IfOk result (λ bytes. bytes ≡ file_bytes (lines_now self.entry)) }
+    {
+        let KeyedCells {
+            file,
+            keys: _,
+            bytes: _,
+            worn: _,
+            record: _,
+        } = self;
+        file.into_bytes()
+    }
+
+    /// The bytes where no text was put or added and there is no index, so that a call takes a pass.
+    pub(crate) fn passed_text(&self) -> Option<&[u8]>
+        ensures { IfSome result (λ text. lines_of text.now ≡ lines_now self.now) }
+    {
+        if self.keys.tells() {
+            return None;
+        }
+        self.file.kept_text()
+    }
+
+    /// The first record that has the name. By an index it takes no pass over the lines.
     pub(crate) fn find(&self, alloc: Global, name: &[u8]) -> Result<Option<R>, AllocError>
         ensures { IfOk result (λ found. found
             ≡ find_named R.format name.now (records_of R.format (lines_now self.now))) }
     {
+        if let Some(text) = self.passed_text() {
+            return find_record(alloc, text, name);
+        }
         let places = self.places_of(alloc, name)?;
         match first_named::<R>(TextsThere::of(&self.file, places.as_slice()), name) {
             Some(text) => read_record(alloc, text),
@@ -141,10 +160,13 @@ impl<'a, R: KeyedRecord + Drop> KeyedCells<'a, R> {
         }
     }
 
-    /// Whether a record has the name. It takes no pass over the lines, and no memory.
+    /// Whether a record has the name. It takes no memory, and by an index no pass over the lines.
     pub(crate) fn has(&self, name: &[u8]) -> bool
         ensures { result ≡ has_named R.format name.now (records_of R.format (lines_now self.now)) }
     {
+        if let Some(text) = self.passed_text() {
+            return has_record::<R>(text, name);
+        }
         match self.keys.listed(own_key(name)) {
             Some(listed) => self.has_at_one(name, listed),
             None => has_in_one::<R>(self.file.cells(), name),
@@ -178,12 +200,15 @@ impl<'a, R: KeyedRecord + Drop> KeyedCells<'a, R> {
         ensures { IfOk result (λ are. are ≡ nat_le 2
             (count_named R.format name.now (records_of R.format (lines_now self.now)))) }
     {
+        if let Some(text) = self.passed_text() {
+            return Ok(has_several_records::<R>(text, name));
+        }
         let places = self.places_of(alloc, name)?;
         let texts = TextsThere::of(&self.file, places.as_slice());
         Ok(are_several_named::<R>(texts, name))
     }
 
-    /// The records of the name, in the order of lines. It takes no pass over them.
+    /// The records of the name, in the order of lines. By an index it takes no pass over them.
     pub(crate) fn all_named(&self, alloc: Global, name: &[u8]) -> Result<Vec<R>, AllocError>
         ensures { IfOk result (λ found. found.items
             ≡ filter (is_named R.format name.now) (records_of R.format (lines_now self.now))) }
@@ -192,8 +217,8 @@ impl<'a, R: KeyedRecord + Drop> KeyedCells<'a, R> {
         all_named(alloc, TextsThere::of(&self.file, places.as_slice()), name)
     }
 
-    /// The first record that passes the test. Where the test has a key, it takes no pass over the lines,
-    /// and else it reads those with its number alone.
+    /// The first record that passes the test. By an index it takes no pass over the lines where the test
+    /// has a key, and else it reads those with its number alone.
     pub(crate) fn first_passing<T: RecordTest<R>>(
         &self,
         alloc: Global,
@@ -203,11 +228,12 @@ impl<'a, R: KeyedRecord + Drop> KeyedCells<'a, R> {
         ensures { IfOk result (λ found. found
             ≡ find (T.accepts test.now) (records_of R.format (lines_now self.now))) }
     {
-        let Some(key) = test.key() else {
-            let text = self.text()?;
-            return first_passing(alloc, &Some(text), test);
-        };
-        let places = self.reached(alloc, key)?;
-        first_accepted(alloc, TextsThere::of(&self.file, places.as_slice()), test)
+        match test.key() {
+            Some(key) if self.keys.tells() => {
+                let places = self.reached(alloc, key)?;
+                first_accepted(alloc, TextsThere::of(&self.file, places.as_slice()), test)
+            }
+            _ => first_passing(alloc, self.seen()?.as_slice(), test),
+        }
     }
 }

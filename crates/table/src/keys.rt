@@ -1,13 +1,13 @@
 // The keys of records, and what changes do to them. Each record has the key of its own name; a user has
 // the primary group for a key too (passwd(5), shadow(5), subuid(5), subgid(5)).
 ghost use Rattle.std.specs.Prelude.{◌≡◌, ℕ, List, IfSome};
-ghost use Rattle.table.specs.KeyPlaces.{NotesOf, told_places};
+ghost use Rattle.acct_tables.specs.KeyPlaces.{NotesOf, told_places};
 ghost use Rattle.table.specs.Keys.{BringsOnly, HaveOwnKeys, Needs, keys_in, user_given};
-ghost use Rattle.table.specs.declared.key_places.Spot.TheVariants.{At};
+ghost use Rattle.acct_tables.specs.declared.key_places.Spot.TheVariants.{At};
 
 use crate::key_names::{note_first, note_given, note_own, own_key};
-use crate::key_places::{KeyPlaces, Spot};
 use acct_lines::{PasswdLine, PasswdRecord, ShadowRecord, SubidRecord};
+use acct_tables::{KeyPlaces, Spot};
 use line_edits::{EditedRecord, PasswdAct, PasswdChange, ShadowAct, ShadowChange, SubidChange};
 
 /// A record with keys, of which an index tells where they are.

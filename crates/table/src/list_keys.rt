@@ -2,14 +2,13 @@
 // do to them (group(5), gshadow(5)).
 ghost use Rattle.std.specs.Prelude.{◌≡◌, ℕ, List, true, false, IfSome};
 ghost use Rattle.line_edits.specs.Memberships.{joins};
-ghost use Rattle.table.specs.KeyPlaces.{NotesOf, told_places};
+ghost use Rattle.acct_tables.specs.KeyPlaces.{NotesOf, told_places};
 ghost use Rattle.table.specs.Keys.{IsGroupLeaver, IsGshadowLeaver, IsLeaver, either_name, group_given, gshadow_given, name_keys};
 
 use crate::key_names::{note_listed, note_name, note_names, note_own, own_key};
-use crate::key_places::{KeyPlaces, Spot};
 use crate::keys::KeyedRecord;
 use acct_lines::{GroupLine, GroupRecord, GshadowLine, GshadowRecord};
-use acct_tables::name_hash;
+use acct_tables::{KeyPlaces, Spot, name_hash};
 use line_edits::{GroupAct, GroupChange, GshadowAct, GshadowChange, Membership, UserGroups};
 
 impl KeyedRecord for GroupRecord {

@@ -9,30 +9,34 @@ ghost use Rattle.account_model.specs.Format.{records_of};
 ghost use Rattle.account_model.specs.RecordEdits.{IsWrittenEdit};
 ghost use Rattle.line_edits.specs.SeenEdits.{seen_edit, seen_edits};
 ghost use Rattle.line_edits.specs.Touching.{is_met};
-ghost use Rattle.table.specs.Cells.{cell_at, lines_now};
+ghost use Rattle.acct_tables.specs.Cells.{cell_at, lines_now};
 ghost use Rattle.table.specs.Met.{MeetsAt, TouchesNamed, first_in, has_met, meets};
 ghost use Rattle.table.specs.TableCells.{cells_there, records_read};
 ghost use Rattle.table.specs.TableEdits.{AreWritten, multiple_by};
 
-use crate::cell::Texts;
 use crate::keyed_cells::KeyedCells;
 use crate::keys::KeyedRecord;
-use acct_tables::name_of;
+use acct_tables::{Texts, name_of};
 use acct_text::Bytes;
 use line_edits::{ChangedNames, Edit, leaves, touches};
 use std::alloc::{AllocError, Global};
 
 impl<'a, R: KeyedRecord + Drop> KeyedCells<'a, R> {
-    /// The name of the first record that the edits touch and whose name has several records.
+    /// The name of the first record that the edits touch and whose name has several records. Where these
+    /// are many, the index is made.
     pub(crate) fn first_multiple(
-        &self,
+        &mut self,
         alloc: Global,
         edits: &[Edit<R, R::Change>],
     ) -> Result<Option<Bytes>, AllocError>
         requires { AreWritten R.format R.becomes edits.now }
-        ensures { IfOk result (λ name. name ≡ multiple_by R.format R.becomes edits.now
-            (records_of R.format (lines_now self.now))) }
+        ensures name { IfOk result (λ name. name ≡ multiple_by R.format R.becomes edits.now
+            (records_of R.format (lines_now self.old))) }
+        ensures same { self.new ≡ self.old }
     {
+        if self.are_many(edits) {
+            self.index(alloc)?;
+        }
         match self.first_met(alloc, edits)? {
             Some(place) => self.name_met(alloc, edits, place),
             None => Ok(None),

@@ -6,12 +6,10 @@ ghost use Rattle.account_model.specs.Format.{count_named, find_named, is_named};
 ghost use Rattle.acct_tables.specs.TableLines.{text_is_named};
 ghost use Rattle.table.specs.TableCells.{has_named_in, records_read};
 
-use crate::cell::Texts;
-use crate::cells::Cells;
 use crate::keys::KeyedRecord;
 use crate::search::RecordTest;
 use crate::texts_there::TextsThere;
-use acct_tables::{TableRecord, is_named, read_record};
+use acct_tables::{Cells, TableRecord, Texts, is_named, read_record};
 use std::alloc::{AllocError, Global};
 
 /// The first text that is a record of the name; none where no record has it.

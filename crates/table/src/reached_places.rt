@@ -6,11 +6,10 @@ ghost use Rattle.std.specs.Vec.{vec_items};
 ghost use Rattle.account_model.specs.Format.{is_named};
 ghost use Rattle.account_model.specs.Text.{is_listed};
 ghost use Rattle.acct_tables.specs.Marks.{marks_in};
-ghost use Rattle.table.specs.Cells.{AreMarked};
-ghost use Rattle.table.specs.KeyPlaces.{has_key};
+ghost use Rattle.acct_tables.specs.Cells.{AreMarked};
+ghost use Rattle.acct_tables.specs.KeyPlaces.{has_key};
 ghost use Rattle.table.specs.TableCells.{Reaches, TouchesAt};
 
-use crate::gathering::all_places;
 use crate::key_names::own_key;
 use crate::keyed_cells::KeyedCells;
 use crate::keys::KeyedRecord;
@@ -36,7 +35,7 @@ impl<'a, R: KeyedRecord + Drop> KeyedCells<'a, R> {
         ensures { IfOk result (λ places.
             (test : R → Bool) → Reaches R.format test self.now places.items) }
     {
-        all_places(alloc, &self.file)
+        self.file.places(alloc)
     }
 
     // The places of lines with one of the marks, from the first to the last, and all where texts were put.
@@ -46,7 +45,7 @@ impl<'a, R: KeyedRecord + Drop> KeyedCells<'a, R> {
     {
         match self.file.marked(alloc, marks)? {
             Some(places) => Ok(places),
-            None => all_places(alloc, &self.file),
+            None => self.file.places(alloc),
         }
     }
 
@@ -88,7 +87,7 @@ impl<'a, R: KeyedRecord + Drop> KeyedCells<'a, R> {
             return self.keys.places(alloc, key);
         }
         match R::touched_names(change) {
-            Some(ChangedNames::Each(names)) if self.is_indexed => {
+            Some(ChangedNames::Each(names)) if self.keys.tells() => {
                 Ok(Some(self.places_of_each(alloc, names)?))
             }
             _ => Ok(None),

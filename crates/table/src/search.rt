@@ -1,12 +1,12 @@
 // The lines of a table, and the first record among them that passes a test.
 ghost use Rattle.std.specs.Prelude.{◌≡◌, Bool, find, IfOk, IfSome};
-ghost use Rattle.account_model.specs.Tables.{table_records};
+ghost use Rattle.acct_text.specs.Lines.{lines_of};
+ghost use Rattle.account_model.specs.Format.{records_of};
 ghost use Rattle.table.specs.Accepting.{IsKeyOf, IsNumberOf, is_accepted};
 
 use crate::keys::KeyedRecord;
 use acct_lines::{GroupLine, GroupRecord, PasswdLine, PasswdRecord};
-use acct_tables::{Lines, from_mark, read_record, text_of};
-use acct_text::Bytes;
+use acct_tables::{Lines, from_mark, read_record};
 use itoa::Buffer;
 use std::alloc::{AllocError, Global};
 
@@ -76,18 +76,18 @@ impl RecordTest<GroupRecord> for OfGid {
     }
 }
 
-/// The first record of the file that passes the test. Only lines with its number are read.
+/// The first record of a file with these bytes that passes the test. Only lines with its number are read.
 pub(crate) fn first_passing<R: KeyedRecord + Drop, T: RecordTest<R>>(
     alloc: Global,
-    file: &Option<Bytes>,
+    text: &[u8],
     test: &T,
 ) -> Result<Option<R>, AllocError>
     ensures { IfOk result (λ found.
-        found ≡ find (T.accepts test.now) (table_records R.format file.now)) }
+        found ≡ find (T.accepts test.now) (records_of R.format (lines_of text.now))) }
 {
     let mut buffer = Buffer::new();
     let number = buffer.format(test.number()).as_bytes();
-    let mut left = Lines::of(from_mark(text_of(file), number));
+    let mut left = Lines::of(from_mark(text, number));
     'lines: while let Some(line) = left.take() {
         if test.passes(line.text) {
             return read_record(alloc, line.text);

@@ -3,8 +3,7 @@
 ghost use Rattle.std.specs.Prelude.{◌≡◌, [], ◌∷◌, MatchOption};
 ghost use Rattle.table.specs.TableCells.{texts_at, texts_there};
 
-use crate::cell::Texts;
-use crate::file::LineFile;
+use acct_tables::{LineFile, Texts};
 use std::marker::Model;
 
 /// The texts in places of a file that are still to be looked at, one place after another. Contracts see

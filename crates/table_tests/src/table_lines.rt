@@ -20,7 +20,7 @@ const USERS: &[u8] =
 
 // The table of these users.
 fn users(alloc: Global) -> Result<Table<'static, PasswdRecord>, AllocError> {
-    Ok(Table::owning(Some(Bytes::of(alloc, USERS)?)))
+    Ok(Table::owning(alloc, Some(Bytes::of(alloc, USERS)?)))
 }
 
 // The UID of a user, where there is one.
@@ -55,7 +55,8 @@ fn edit(
     requires { IsWrittenEdit passwd_format (seen_edit passwd_becomes one) }
 {
     let edits = vec![in alloc; one]?;
-    table.edit(alloc, edits.as_slice())
+    table.edit(alloc, edits.as_slice())?;
+    Ok(())
 }
 
 // Adds the user that the line is.
@@ -89,7 +90,7 @@ fn a_name_comes_and_goes_many_times(rt: HostRuntime) -> Result<(), Fail> {
     }
     remove(alloc, &mut table, b"ann")?;
     add(alloc, &mut table, b"eve:x:1003:100::/:")?;
-    let file = table.take_change(&None)?.unwrap_or(Bytes::new(alloc));
+    let file = table.take()?.unwrap_or(Bytes::new(alloc));
     assert_eq!(rt;
         file.as_slice(),
         b"# two of one name\nbob:x:1001:100::/:\neve:x:1003:100::/:\n".as_slice()

@@ -17,7 +17,7 @@ fn many_groups(alloc: Global, count: u32) -> Result<Table<'static, GroupRecord>,
         write!(text, "g{number}:x:{number}:\n")?;
     }
     let file = Some(Bytes::of(alloc, text.as_bytes())?);
-    let mut groups = Table::owning(file);
+    let mut groups = Table::owning(alloc, file);
     groups.index(alloc)?;
     Ok(groups)
 }

@@ -8,7 +8,7 @@ use Rattle.account_model.specs.Format.{is_named}
 use Rattle.account_model.specs.Records.{passwd_format}
 use Rattle.account_model.specs.declared.records.PasswdRecord.{PasswdRecord}
 use Rattle.acct_tables.proofs.FieldMarks.{holds-primary, holds-uid}
-use Rattle.table.specs.KeyPlaces.{has_key}
+use Rattle.acct_tables.specs.KeyPlaces.{has_key}
 use Rattle.table.specs.Keys.{own_key, user_keys}
 use Rattle.table.specs.Accepting.{IsKeyOf, IsNumberOf}
 use Rattle.table.proofs.NumberLemmas.{number-of}

@@ -1,8 +1,7 @@
 use Rattle.std.proofs.Common.{◌∙◌, ◌++◌, length, map, ap, arith}
 use Rattle.account_model.specs.Format.{records_of}
-use Rattle.account_model.specs.Tables.{table_records}
+use Rattle.acct_text.specs.Lines.{lines_of}
 use Rattle.acct_tables.specs.SeenLines.{seen_line}
-use Rattle.acct_tables.proofs.FileLemmas.{records-in}
 use Rattle.acct_tables.proofs.GatheredIds.{ids-end, ids-found}
 use Rattle.acct_tables.proofs.ids.listed_ids.Goals as goal
 
@@ -12,15 +11,14 @@ lines-init g c =
     let format = g.R.TableRecord.format in
     let number = g.R.NumberedRecord.id_of in
     ap (λ ids. ids ++ map number (records_of format c.of-left.result)) c.new-ids.ensures.items
-    ∙ ap (map number)
-    (records-in format c.of-left.result c.args.file.now (c.of-left.ensures ∙ c.text_of.ensures))
+    ∙ ap (λ lines. map number (records_of format lines)) c.of-left.ensures
 
 -- the ID of the line that is taken goes to those so far
 pub lines-preserved : goal.lines-preserved
 lines-preserved g c =
     let format = g.R.TableRecord.format in
     let number = g.R.NumberedRecord.id_of in
-    ids-found format number (map number (table_records format c.args.file.now))
+    ids-found format number (map number (records_of format (lines_of c.args.text.now)))
     (seen_line c.in-Some.line) c.lines.left c.take.new.self c.lines.ids.items
     c.note_id.new.ids.items c.in-Some.ensures.taken c.in_ok-note_id.ensures c.lines.invariant
 
@@ -32,5 +30,5 @@ lines-smaller g c = omega (arith, ap length c.in-Some.ensures.taken)
 pub returns : goal.returns
 returns g c =
     ids-end g.R.TableRecord.format g.R.NumberedRecord.id_of
-    (map g.R.NumberedRecord.id_of (table_records g.R.TableRecord.format c.args.file.now))
+    (map g.R.NumberedRecord.id_of (records_of g.R.TableRecord.format (lines_of c.args.text.now)))
     c.lines.ids.items c.lines.left c.in_default.ensures.taken c.lines.invariant

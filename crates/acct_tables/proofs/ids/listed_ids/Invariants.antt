@@ -1,5 +1,6 @@
 use Rattle.std.proofs.Common.{length, map}
-use Rattle.account_model.specs.Tables.{table_records}
+use Rattle.acct_text.specs.Lines.{lines_of}
+use Rattle.account_model.specs.Format.{records_of}
 use Rattle.acct_tables.proofs.GatheredIds.{Gathers}
 use Rattle.acct_tables.proofs.ids.listed_ids.Given as goal
 
@@ -8,7 +9,7 @@ abbrev pub invariant-lines : goal.invariant-lines
 invariant-lines g l =
     let format = g.R.TableRecord.format in
     let number = g.R.NumberedRecord.id_of in
-    Gathers format number (map number (table_records format l.file)) l.ids.items l.left
+    Gathers format number (map number (records_of format (lines_of l.text))) l.ids.items l.left
 
 abbrev pub decreases-lines : goal.decreases-lines
 decreases-lines g l = length l.left

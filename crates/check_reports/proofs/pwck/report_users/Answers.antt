@@ -1,12 +1,13 @@
-use Rattle.std.proofs.Common.{◌∙◌, ℕ, Bool, true, List, [], ap, subst}
+use Rattle.std.proofs.Common.{◌∙◌, ℕ, Bool, true, List, [], ap, map, subst}
 use Rattle.std.specs.Prelude.{codes}
 use Rattle.acct_text.specs.declared.Tab.TheVariants.{Passwd, Shadow}
 use Rattle.acct_text.specs.Files.{no_files}
-use Rattle.account_model.specs.Records.{passwd_format, shadow_format}
+use Rattle.account_model.specs.Records.{group_format, passwd_format, shadow_format}
 use Rattle.account_model.specs.Problems.{table_problems}
 use Rattle.account_model.specs.Pwck.{passwd_report, shadow_problems, shadow_report, user_problems}
 use Rattle.account_model.specs.Request.{has_option}
 use Rattle.id_choice.specs.Used.{AreThoseOf}
+use Rattle.acct_tables.proofs.FileLemmas.{records-in}
 use Rattle.check_reports.specs.Reported.{with_problems}
 use Rattle.check_reports.proofs.ReportLemmas.{told-both}
 use Rattle.check_reports.proofs.pwck.report_users.Goals as goal
@@ -15,7 +16,10 @@ pub invariant_of-known : goal.invariant_of-known
 invariant_of-known c = record {
   of_hashes = c.with-hashes.ensures.whole;
   of_gids = subst (λ (ids : List ℕ). AreThoseOf c.in_ok-gids.gids ids)
-      c.in_ok-listed_ids.ensures c.in_ok-gids.ensures;
+      (c.in_ok-listed_ids.ensures
+      ∙ ap (map (λ group. group.gid))
+      (records-in group_format _ c.args.files.now.group c.text_of.ensures))
+      c.in_ok-gids.ensures;
 }
 
 pub returns : goal.returns

@@ -1,5 +1,5 @@
 use Rattle.std.proofs.Common.{sym, subst}
-use Rattle.table.specs.KeyPlaces.{told_places}
+use Rattle.acct_tables.specs.KeyPlaces.{told_places}
 use Rattle.table.specs.TableCells.{HoldsThere, IsKeyed}
 use Rattle.table.proofs.KeptCells.{texts-noted}
 use Rattle.table.proofs.gathering.gathered.Goals as goal
@@ -19,8 +19,8 @@ cells-preserved g c = λ after widens left.
     ))
 
 -- no cell is left
-pub returns-clause-told : goal.returns-clause-told
-returns-clause-told g c =
+pub returns : goal.returns
+returns g c =
     c.cells.invariant (told_places c.cells.keys) (λ key place told. told)
     (subst (HoldsThere g.R.TableRecord.format
     (IsKeyed g.R.KeyedRecord.keys (told_places c.cells.keys)))

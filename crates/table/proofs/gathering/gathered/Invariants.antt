@@ -1,6 +1,6 @@
 use Rattle.std.proofs.Common.{ℕ, List, length}
 use Rattle.std.specs.Prelude.{Option}
-use Rattle.table.specs.KeyPlaces.{Widens, told_places}
+use Rattle.acct_tables.specs.KeyPlaces.{Widens, told_places}
 use Rattle.table.specs.TableCells.{HoldsThere, IsKeyed}
 use Rattle.table.proofs.gathering.gathered.Given as goal
 

@@ -1,6 +1,6 @@
 use Rattle.std.proofs.Common.{◌∙◌, refl, sym, ap, subst}
 use Rattle.std.specs.List.{AllByRecursion}
-use Rattle.table.specs.KeyPlaces.{has_key, told_places}
+use Rattle.acct_tables.specs.KeyPlaces.{has_key, told_places}
 use Rattle.table.specs.Keys.{keys_in}
 use Rattle.table.specs.TableCells.{HoldsOf, IsKeyed}
 use Rattle.table.proofs.gathering.note_cell.Goals as goal

@@ -1,7 +1,7 @@
 use Rattle.std.proofs.Common.{ℕ, List, length}
 use Rattle.std.specs.Prelude.{Option}
 use Rattle.std.specs.List.{AllByRecursion}
-use Rattle.table.specs.KeyPlaces.{Widens, told_places}
+use Rattle.acct_tables.specs.KeyPlaces.{Widens, told_places}
 use Rattle.table.specs.TableCells.{HoldsOf, IsKeyed}
 use Rattle.table.proofs.gathering.note_cell.Given as goal
 

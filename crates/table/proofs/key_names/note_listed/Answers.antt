@@ -2,7 +2,7 @@ use Rattle.std.proofs.Common.{sym, subst}
 use Rattle.acct_text.specs.Pieces.{cut_at}
 use Rattle.account_model.specs.Text.{comma, nonempty}
 use Rattle.table.specs.Keys.{name_keys}
-use Rattle.table.specs.KeyPlaces.{NotesOf, told_places}
+use Rattle.acct_tables.specs.KeyPlaces.{NotesOf, told_places}
 use Rattle.table.proofs.NoteLemmas.{notes-piece}
 use Rattle.table.proofs.key_names.note_listed.Goals as goal
 

@@ -4,7 +4,7 @@ use Rattle.acct_text.specs.Pieces.{cut_at}
 use Rattle.account_model.specs.Text.{comma, nonempty}
 use Rattle.account_model.specs.Records.{read_names}
 use Rattle.table.specs.Keys.{name_keys}
-use Rattle.table.specs.KeyPlaces.{NotesOf, told_places}
+use Rattle.acct_tables.specs.KeyPlaces.{NotesOf, told_places}
 use Rattle.table.proofs.key_names.note_listed.Given as goal
 
 -- once the names of the rest are noted, all are

@@ -1,6 +1,6 @@
 use Rattle.std.proofs.Common.{take}
 use Rattle.table.specs.Keys.{name_keys}
-use Rattle.table.specs.KeyPlaces.{NotesOf, told_places}
+use Rattle.acct_tables.specs.KeyPlaces.{NotesOf, told_places}
 use Rattle.table.proofs.key_names.note_names.Given as goal
 
 -- the names so far are noted

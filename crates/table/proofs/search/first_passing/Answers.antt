@@ -1,10 +1,8 @@
 use Rattle.std.proofs.Common.{◌∙◌, length, sym, ap, arith, subst}
 use Rattle.std.specs.Prelude.{find}
 use Rattle.std.proofs.lemmas.Result.{IfOk-weaker}
-use Rattle.acct_text.specs.Lines.{lines_of}
 use Rattle.account_model.specs.Format.{records_of}
 use Rattle.acct_tables.specs.Marks.{IsFromMark}
-use Rattle.acct_tables.proofs.FileLemmas.{records-in}
 use Rattle.table.proofs.NumberLemmas.{marked-fewer, marked-passing}
 use Rattle.table.proofs.RecordLemmas.{find-accepted, find-refused}
 use Rattle.table.proofs.search.first_passing.Goals as goal
@@ -14,12 +12,11 @@ pub lines-init : goal.lines-init
 lines-init g c =
     let format = g.R.TableRecord.format in
     let test = g.T.RecordTest.accepts c.args.test.now in
-    let text = c.text_of.result.now in
+    let text = c.args.text.now in
     let from = subst (λ mark. IsFromMark mark text c.from_mark.result.now)
     (c.as_bytes-number.ensures.value ∙ c.format.ensures.text) c.from_mark.ensures in
     ap (λ lines. find test (records_of format lines)) c.of-left.ensures
     ∙ marked-passing format test c.number.result c.number.ensures text c.from_mark.result.now from
-    ∙ ap (find test) (records-in format (lines_of text) c.args.file.now c.text_of.ensures)
 
 -- the line that passes is the first of all that do
 pub returns-then-passes : goal.returns-then-passes

@@ -1,7 +1,7 @@
 use Rattle.std.proofs.Common.{◌∙◌, ap, sym, subst}
-use Rattle.table.specs.Cells.{lines_now}
+use Rattle.acct_tables.specs.Cells.{lines_now}
 use Rattle.account_model.specs.Edits.{with_line}
-use Rattle.table.specs.KeyPlaces.{told_places}
+use Rattle.acct_tables.specs.KeyPlaces.{told_places}
 use Rattle.table.specs.TableCells.{AreKept}
 use Rattle.table.proofs.EditedCells.{new-kept}
 use Rattle.table.proofs.KeptCells.{added-line}

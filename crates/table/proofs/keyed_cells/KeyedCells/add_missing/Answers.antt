@@ -3,7 +3,7 @@ use Rattle.std.specs.Prelude.{is_some, if◌then◌else◌}
 use Rattle.std.proofs.lemmas.Result.{on_ok_weaker}
 use Rattle.account_model.specs.Edits.{with_line}
 use Rattle.account_model.specs.Format.{has_named, records_of}
-use Rattle.table.specs.Cells.{lines_now}
+use Rattle.acct_tables.specs.Cells.{lines_now}
 use Rattle.table.proofs.keyed_cells.KeyedCells.add_missing.Goals as goal
 
 -- a record has the name
@@ -27,5 +27,6 @@ returns-in-None g c =
     ap (λ name. has_named format name (records_of format lines)) (sym c.name.ensures)
     ∙ sym c.in_ok-_place.ensures.has ∙ ap is_some c.in-None.is in
     on_ok_weaker c.add.result
-    (λ made. made ∙ sym (ap (λ is. if is then lines else with_line (format.print item) lines) named))
+    (λ made. made ∙ sym (ap (λ is. if is then lines
+    else with_line (format.print item) lines) named))
     c.add.ensures

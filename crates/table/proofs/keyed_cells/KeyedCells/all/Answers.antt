@@ -1,7 +1,7 @@
 use Rattle.std.proofs.Common.{◌∙◌, sym, ap, subst}
 use Rattle.std.proofs.lemmas.Result.{IfOk-weaker}
 use Rattle.std.specs.List.{AllByRecursion}
-use Rattle.table.specs.Cells.{ArePlaced}
+use Rattle.acct_tables.specs.Cells.{ArePlaced}
 use Rattle.table.specs.TableCells.{IsSound, Reaches}
 use Rattle.table.proofs.ReachLemmas.{all-reaches, places_in}
 use Rattle.table.proofs.keyed_cells.KeyedCells.all.Goals as goal
@@ -10,9 +10,9 @@ use Rattle.table.proofs.keyed_cells.KeyedCells.all.Goals as goal
 pub returns : goal.returns
 returns g c =
     let format = g.R.TableRecord.format in
-    IfOk-weaker c.all_places.result _ _ (λ places is test.
+    IfOk-weaker c.places.result _ _ (λ places is test.
     subst (Reaches format test c.args.self.now) (sym (is ∙ ap places_in c.self.view_is))
     (all-reaches format test c.args.self.now
     (subst (AllByRecursion IsSound) c.self.view_is c.self.invariant.sound)
     (subst ArePlaced c.self.view_is c.self.invariant.placed)))
-    c.all_places.ensures
+    c.places.ensures

@@ -1,5 +1,5 @@
 use Rattle.std.proofs.Common.{◌∙◌, ap}
-use Rattle.table.specs.Cells.{lines_now}
+use Rattle.acct_tables.specs.Cells.{lines_now}
 use Rattle.table.specs.Changed.{changed_there}
 use Rattle.table.proofs.ReachLemmas.{reached-changes}
 use Rattle.table.proofs.keyed_cells.KeyedCells.change.Goals as goal

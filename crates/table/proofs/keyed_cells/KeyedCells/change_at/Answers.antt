@@ -1,7 +1,7 @@
 use Rattle.std.proofs.Common.{◌≡◌, ◌∙◌, [], ◌∷◌, sym, ap, subst}
 use Rattle.std.proofs.lemmas.Result.{on_ok_weaker}
-use Rattle.table.specs.Cells.{texts_put}
-use Rattle.table.specs.KeyPlaces.{told_places}
+use Rattle.acct_tables.specs.Cells.{texts_put}
+use Rattle.acct_tables.specs.KeyPlaces.{told_places}
 use Rattle.table.specs.Changed.{changed_there}
 use Rattle.table.specs.TableCells.{AreKept}
 use Rattle.table.proofs.EditedCells.{changed-kept, either-way, here-lines}

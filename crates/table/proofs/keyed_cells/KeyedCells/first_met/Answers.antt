@@ -5,7 +5,7 @@ use Rattle.account_model.specs.Edits as model
 use Rattle.account_model.specs.RecordEdits.{IsWrittenEdit}
 use Rattle.line_edits.specs.SeenEdits.{seen_edit, seen_edits}
 use Rattle.line_edits.proofs.EditLists.{edit-at, seen-from}
-use Rattle.table.specs.Cells.{ArePlaced}
+use Rattle.acct_tables.specs.Cells.{ArePlaced}
 use Rattle.table.specs.Met.{earlier, first_in, has_met}
 use Rattle.table.proofs.MetRecords.{earlier-joined, earlier-none, met-more, met-none}
 use Rattle.table.proofs.SettledEdits.{settled-no_earlier}

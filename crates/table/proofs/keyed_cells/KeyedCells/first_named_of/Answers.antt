@@ -3,8 +3,8 @@ use Rattle.std.specs.Prelude.{find, option_map}
 use Rattle.std.proofs.Math.ListN.{drop_of_length-le}
 use Rattle.std.proofs.lemmas.List.{drop_more}
 use Rattle.account_model.specs.Format.{is_named}
-use Rattle.table.specs.Cells.{cell_at}
-use Rattle.table.specs.declared.cell.Cell.{Cell}
+use Rattle.acct_tables.specs.Cells.{cell_at}
+use Rattle.acct_tables.specs.declared.cell.Cell.{Cell}
 use Rattle.table.specs.TableCells.{cells_there, has_named_in}
 use Rattle.table.proofs.PutRecords.{met-first, passed-first}
 use Rattle.table.proofs.keyed_cells.KeyedCells.first_named_of.Goals as goal
@@ -23,7 +23,8 @@ returns-then-has_named_at g c =
     sym (sym (ap (option_map (λ (cell : Cell). cell.place)) c.places.invariant)
     ∙ ap (λ left. option_map (λ (cell : Cell). cell.place)
     (find (has_named_in format name) (cells_there cells left))) left
-    ∙ met-first format (is_named format name) place cells (cells_there cells later) (cell_at place cells) refl
+    ∙ met-first format (is_named format name) place cells (cells_there cells later)
+    (cell_at place cells) refl
     (sym c.has_named_at.ensures ∙ c.if-has_named_at.true))
 
 -- it isn't

@@ -2,7 +2,7 @@ use Rattle.std.proofs.Common.{◌∙◌, sym, ap, subst}
 use Rattle.std.specs.Prelude.{IfSome}
 use Rattle.std.proofs.lemmas.Result.{IfOk-weaker}
 use Rattle.acct_tables.specs.Marks.{marks_in}
-use Rattle.table.specs.Cells.{AreMarked, ArePlaced}
+use Rattle.acct_tables.specs.Cells.{AreMarked, ArePlaced}
 use Rattle.table.proofs.ReachLemmas.{all-marked, places_in}
 use Rattle.table.proofs.keyed_cells.KeyedCells.marked.Goals as goal
 
@@ -18,8 +18,8 @@ returns-in-Some g c =
 pub returns-in-None : goal.returns-in-None
 returns-in-None g c =
     let marks = marks_in c.args.marks in
-    IfOk-weaker c.all_places.result _ _ (λ places is.
+    IfOk-weaker c.places.result _ _ (λ places is.
     subst (AreMarked marks c.args.self.now) (sym (is ∙ ap places_in c.self.view_is))
     (all-marked marks c.args.self.now
     (subst ArePlaced c.self.view_is c.self.invariant.placed)))
-    c.all_places.ensures
+    c.places.ensures

@@ -3,7 +3,7 @@ use Rattle.std.specs.Prelude.{true}
 use Rattle.std.specs.List.{AllByRecursion}
 use Rattle.std.proofs.lemmas.Result.{IfOk-weaker}
 use Rattle.acct_tables.specs.Marks.{marks_in}
-use Rattle.table.specs.Cells.{ArePlaced}
+use Rattle.acct_tables.specs.Cells.{ArePlaced}
 use Rattle.table.specs.TableCells.{IsSound}
 use Rattle.table.proofs.ReachLemmas.{marked-touches, reached-touches}
 use Rattle.table.proofs.keyed_cells.KeyedCells.marked_of.Goals as goal

@@ -1,5 +1,5 @@
 use Rattle.std.proofs.Common.{◌∙◌, sym}
-use Rattle.table.specs.KeyPlaces.{told_places}
+use Rattle.acct_tables.specs.KeyPlaces.{told_places}
 use Rattle.table.proofs.EditedCells.{here-lines}
 use Rattle.table.proofs.keyed_cells.KeyedCells.meets_at.Goals as goal
 

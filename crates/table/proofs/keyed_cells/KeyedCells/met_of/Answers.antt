@@ -4,8 +4,8 @@ use Rattle.std.proofs.lemmas.List.{drop_more}
 use Rattle.account_model.specs.Format.{records_of}
 use Rattle.line_edits.specs.SeenEdits.{seen_edit}
 use Rattle.line_edits.specs.Touching.{is_met}
-use Rattle.table.specs.Cells.{cell_at, lines_now}
-use Rattle.table.specs.declared.cell.Cell.{Cell}
+use Rattle.acct_tables.specs.Cells.{cell_at, lines_now}
+use Rattle.acct_tables.specs.declared.cell.Cell.{Cell}
 use Rattle.table.specs.Met.{first_in, has_met}
 use Rattle.table.specs.TableCells.{cells_there}
 use Rattle.table.proofs.PutRecords.{met-first}

@@ -2,7 +2,7 @@ use Rattle.std.proofs.Common.{ap, subst}
 use Rattle.std.specs.List.{AllByRecursion}
 use Rattle.line_edits.specs.SeenEdits.{seen_edit}
 use Rattle.line_edits.specs.Touching.{touches_alone}
-use Rattle.table.specs.Cells.{ArePlaced}
+use Rattle.acct_tables.specs.Cells.{ArePlaced}
 use Rattle.table.specs.TableCells.{IsSound}
 use Rattle.table.proofs.MetRecords.{added-meets}
 use Rattle.table.proofs.keyed_cells.KeyedCells.met_places.Goals as goal

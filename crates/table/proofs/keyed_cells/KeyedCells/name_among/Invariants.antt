@@ -6,7 +6,7 @@ use Rattle.acct_text.specs.Pieces.{Lacks}
 use Rattle.account_model.specs.Format.{records_of}
 use Rattle.line_edits.specs.SeenEdits.{seen_edits}
 use Rattle.line_edits.specs.Touching.{is_met}
-use Rattle.table.specs.Cells.{lines_now}
+use Rattle.acct_tables.specs.Cells.{lines_now}
 use Rattle.table.specs.TableCells.{records_read}
 use Rattle.table.proofs.keyed_cells.KeyedCells.name_among.Given as goal
 

@@ -4,8 +4,8 @@ use Rattle.std.proofs.lemmas.Result.{IfOk-weaker}
 use Rattle.account_model.specs.Format.{records_of}
 use Rattle.line_edits.specs.SeenEdits.{seen_edits}
 use Rattle.line_edits.specs.Touching.{is_met}
-use Rattle.table.specs.Cells.{ArePlaced, cell_at, lines_now}
-use Rattle.table.specs.KeyPlaces.{told_places}
+use Rattle.acct_tables.specs.Cells.{ArePlaced, cell_at, lines_now}
+use Rattle.acct_tables.specs.KeyPlaces.{told_places}
 use Rattle.table.proofs.EditedCells.{here-lines}
 use Rattle.table.proofs.MetRecords.{first-placed}
 use Rattle.table.proofs.keyed_cells.KeyedCells.name_met.Goals as goal

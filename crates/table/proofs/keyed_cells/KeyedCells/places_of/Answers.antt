@@ -4,8 +4,8 @@ use Rattle.std.specs.List.{AllByRecursion}
 use Rattle.std.proofs.lemmas.Result.{IfOk-weaker}
 use Rattle.account_model.specs.Format.{is_named}
 use Rattle.line_edits.proofs.MarkLemmas.{other-record}
-use Rattle.table.specs.Cells.{AreMarked, ArePlaced}
-use Rattle.table.specs.KeyPlaces.{ArePlacesOf, told_places}
+use Rattle.acct_tables.specs.Cells.{AreMarked, ArePlaced}
+use Rattle.acct_tables.specs.KeyPlaces.{ArePlacesOf, told_places}
 use Rattle.table.specs.TableCells.{AreKept, IsSound}
 use Rattle.table.proofs.ReachLemmas.{marked-reaches, named-reached, told-reaches}
 use Rattle.table.proofs.keyed_cells.KeyedCells.places_of.Goals as goal

@@ -6,7 +6,7 @@ use Rattle.std.proofs.lemmas.List.{map_more, take_all}
 use Rattle.std.proofs.lemmas.List.Filters.{dedup_is}
 use Rattle.account_model.specs.Format.{is_named}
 use Rattle.account_model.specs.Text.{is_listed}
-use Rattle.table.specs.Cells.{ArePlaced}
+use Rattle.acct_tables.specs.Cells.{ArePlaced}
 use Rattle.table.specs.TableCells.{IsSound, Reaches, ReachesNames}
 use Rattle.table.proofs.ReachedNames.{names-more, names-sorted}
 use Rattle.table.proofs.keyed_cells.KeyedCells.places_of_each.Goals as goal
@@ -27,7 +27,8 @@ names-preserved g c =
     ∙ ap (λ item. before ++ vec_items item ∷ []) (sym c.name-item.is) in
     let both : c.extend_from_slice.new.self.items ≡ places ++ found =
     c.in_ok-extend_from_slice.ensures.items ∙ ap (λ more. places ++ more) c.deref.ensures.value in
-    subst (λ listed. ReachesNames format listed cells c.extend_from_slice.new.self.items) (sym listed)
+    subst (λ listed. ReachesNames format listed cells c.extend_from_slice.new.self.items)
+    (sym listed)
     (subst (ReachesNames format (before ++ vec_items name ∷ []) cells) (sym both)
     (names-more format cells before (vec_items name) places found c.names.invariant
     (subst (λ name. Reaches format (is_named format name) cells found) c.as_slice.ensures.value

@@ -3,7 +3,7 @@ use Rattle.std.specs.Prelude.{is_some, if◌then◌else◌}
 use Rattle.std.proofs.lemmas.Result.{on_ok_weaker}
 use Rattle.account_model.specs.Edits.{put_first, with_line}
 use Rattle.account_model.specs.Format.{has_named, records_of}
-use Rattle.table.specs.Cells.{lines_now}
+use Rattle.acct_tables.specs.Cells.{lines_now}
 use Rattle.table.proofs.keyed_cells.KeyedCells.put.Goals as goal
 
 -- a record has the name

@@ -2,8 +2,8 @@ use Rattle.std.proofs.Common.{◌≡◌, ◌∙◌, sym, ap, refl}
 use Rattle.std.specs.Prelude.{Some, find, option_map}
 use Rattle.std.proofs.lemmas.Result.{on_ok_weaker}
 use Rattle.account_model.specs.Edits.{put_first}
-use Rattle.table.specs.Cells.{cell_at, lines_now, texts_put}
-use Rattle.table.specs.KeyPlaces.{told_places}
+use Rattle.acct_tables.specs.Cells.{cell_at, lines_now, texts_put}
+use Rattle.acct_tables.specs.KeyPlaces.{told_places}
 use Rattle.table.specs.Changed.{texts_with}
 use Rattle.table.specs.TableCells.{AreKept, has_named_in}
 use Rattle.table.proofs.EditedCells.{either-way, here-lines, with-kept}

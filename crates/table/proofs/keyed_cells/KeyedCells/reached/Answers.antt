@@ -1,5 +1,5 @@
 use Rattle.std.proofs.lemmas.Result.{IfOk-weaker}
-use Rattle.table.specs.KeyPlaces.{has_key}
+use Rattle.acct_tables.specs.KeyPlaces.{has_key}
 use Rattle.table.proofs.keyed_cells.KeyedCells.reached.Goals as goal
 
 -- all places reach all records

@@ -1,9 +1,9 @@
 use Rattle.std.proofs.Common.{refl}
 use Rattle.account_model.specs.Records.{shadow_format}
 use Rattle.account_model.proofs.NamingLaws.{shadow-names_first}
-use Rattle.table.specs.KeyPlaces.{told_places}
+use Rattle.acct_tables.specs.KeyPlaces.{told_places}
 use Rattle.table.specs.Keys.{shadow_keys}
-use Rattle.table.specs.declared.key_places.Spot.TheVariants.{At}
+use Rattle.acct_tables.specs.declared.key_places.Spot.TheVariants.{At}
 use Rattle.table.proofs.OwnKeys.{notes-first}
 use Rattle.table.proofs.keys.ShadowRecordKeyedRecord.note_line.Goals as goal
 

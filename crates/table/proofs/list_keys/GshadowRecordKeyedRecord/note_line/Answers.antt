@@ -1,8 +1,8 @@
 use Rattle.std.proofs.Common.{rules, ◌∷◌, ◌++◌, []}
 use Rattle.account_model.specs.Records.{read_names}
-use Rattle.table.specs.KeyPlaces.{told_places}
+use Rattle.acct_tables.specs.KeyPlaces.{told_places}
 use Rattle.table.specs.Keys.{name_keys, own_key}
-use Rattle.table.specs.declared.key_places.Spot.TheVariants.{At}
+use Rattle.acct_tables.specs.declared.key_places.Spot.TheVariants.{At}
 use Rattle.table.proofs.NoteLemmas.{notes-both}
 use Rattle.table.proofs.list_keys.GshadowRecordKeyedRecord.note_line.Goals as goal
 

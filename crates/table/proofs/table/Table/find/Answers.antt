@@ -5,12 +5,12 @@ use Rattle.table.proofs.TableLemmas.{kept-records}
 use Rattle.table.proofs.table.Table.find.Goals as goal
 
 -- what is found in the lines is found in the file
-pub returns-in-Indexed : goal.returns-in-Indexed
-returns-in-Indexed g c =
+pub returns-in-Some : goal.returns-in-Some
+returns-in-Some g c =
     let format = g.R.TableRecord.format in
     IfOk-weaker c.find.result _ _ (λ found is.
     is
     ∙ ap (find_named format c.args.name.now)
-    (kept-records c.self.inside.standing c.in-Indexed.cells c.in-Indexed.is c.self.invariant format
+    (kept-records c.self.inside.lines c.in-Some.cells c.in-Some.is c.self.invariant format
     c.args.self.now c.self.view_is))
     c.find.ensures
