@@ -340,7 +340,7 @@ lines-lawful :
 lines-lawful whose day number named files [] has apart none = tt
 lines-lawful whose day number named files (line ∷ lines) has apart none =
     let good = first-good whose number files line lines
-        (line_problem whose files line.text) refl none
+    (line_problem whose files line.text) refl none
     in let others = names_of_lines lines
     in (
       set-hash-lawful whose day named (line_account line.text) (line_hash line.text) files

@@ -189,7 +189,7 @@ module _ {R : Type 0} (format : Format R) (key : R → ℕ) (text : List ℕ) wh
   pub arranged-times :
       (lines : List Line)
       → times text (texts_of
-          (in_places format (sorted_by_key (keyed_texts format key lines)) lines))
+      (in_places format (sorted_by_key (keyed_texts format key lines)) lines))
       ≡ times text (texts_of lines)
   arranged-times lines =
       placed-times lines (sorted_by_key (keyed_texts format key lines))

@@ -312,7 +312,7 @@ joined-lawful :
     → ((name : List ℕ) → is_listed name named.groups ≡ false
     → is_listed name (map (λ group. group.name) groups) ≡ false)
     → AllByRecursion (IsLawful day true false named)
-        (map (λ group. add_to_group group.name user) groups)
+    (map (λ group. add_to_group group.name user) groups)
 joined-lawful day named user [] is has = tt
 joined-lawful day named user (group ∷ groups) is has =
     let others = map (λ other. other.name) groups

@@ -24,7 +24,7 @@ pub unused-none :
 unused-none [] place unused = refl
 unused-none (entry ∷ entries) place unused =
     let both = or_parts (entry.0 == place) (is_used (map
-        (λ entry. entry.0) entries) place) unused in
+    (λ entry. entry.0) entries) place) unused in
     rw (ne_eqb place entry.0 (λ same. let is : true ≡ false =
     sym (eq-eqb entry.0 place (sym same)) ∙ both.0 in absurd cc))
     (unused-none entries place both.1)

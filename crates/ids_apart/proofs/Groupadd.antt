@@ -105,7 +105,7 @@ script-apart request name hash files None unused = kept-apart keep-composed.none
 script-apart request name hash files (Some gid) unused =
     let new = new_group name (if is_some files.gshadow then elsewhere else hash) gid
     in let none = kept-apart {tool = Groupadd} {request = request} {files = files}
-        keep-composed.none
+    keep-composed.none
     in record {
       uids = none.uids;
       gids = λ id shares. stays-table group_format (has_key gid_key id) files.group (Add new ∷ [])

@@ -360,7 +360,7 @@ module _ (name_of : NewTable → Name) (bytes_of : NewTable → Bytes) (walker :
       ≡ text_at (name_of next) (pieces_behind staged (bytes_of next))
   begun-at staged begun =
       ap (λ (is : Bool). if is then table_text name_of bytes_of staged (next_table walker)
-          else none)
+      else none)
       (some-staged staged begun)
       ∙ ap (table_text name_of bytes_of staged) is_next
 

@@ -94,7 +94,7 @@ module _ (tool : Tool) (action : Action) (first old last : Files) (output : Outp
       (decision_by (changed_tables (table_of first) (table_of last)) output)
   carried-decides = by (outcome_of action first) refl
       (subst (λ (files : Files). IsCarriedOut tool (outcome_of action files) files
-          last (Ok output)) are
+      last (Ok output)) are
       carried)
     where
       by :

@@ -111,7 +111,7 @@ module _ (request : Request) (files : Files) (settings : List Setting) (day : �
           ∙ script-of_ids ids shadow has
           ∙ ap (λ plan. (useradd_by plan shadow request files).script) planned
           ∙ ap (λ shadow.
-            (useradd_by (plan_of request files settings) shadow request files).script) same;
+          (useradd_by (plan_of request files settings) shadow request files).script) same;
     }
 
 -- ---- What is told of the new user
@@ -142,9 +142,9 @@ pub adds-planned :
     → added_uid (useradd_by plan shadow request files).script ≡ plan.uid
 adds-planned request files plan shadow none =
     let conflicts = none-behind (useradd_checks request)
-        (useradd_conflicts request files plan) none in
+    (useradd_conflicts request files plan) none in
     let left = none-behind (take 5 (useradd_conflicts request files plan))
-        (used_up plan) conflicts in
+    (used_up plan) conflicts in
     let uid = first-none (refuse_if (is_none plan.uid) NoFreeUid) _ left in
     let gid = first-none (refuse_if (is_none plan.gid) NoFreeGid) _ uid.1 in
     adds-by request files plan shadow plan.uid plan.gid uid.0 gid.0

@@ -57,7 +57,7 @@ edits-preserved g c =
       of_file = subst AreOfFile (sym made) of_file;
       idle = elim (cases_Bool c.in_ok-differs.differs) [
         | inl differs ↦ last-none becomes
-        (λ edit. edited format now edit ≡ now) c.unless-idle.result
+            (λ edit. edited format now edit ≡ now) c.unless-idle.result
             (ap (λ idle. idle.last) (c.unless-idle.ensures.none differs))
             (ap (λ idle. idle.older) (c.unless-idle.ensures.none differs))
         | inr same ↦
