@@ -134,10 +134,10 @@ impl<'a, R: KeyedRecord + Drop> KeyedCells<'a, R> {
         ensures { OnOk result (lines_now self.new
             ≡ edited R.format (lines_now self.old) (model.AddMissing item.now)) }
     {
-        match self.place_named(alloc, item.name())? {
-            Some(_place) => Ok(()),
-            None => self.add(alloc, item),
+        if self.has(item.name()) {
+            return Ok(());
         }
+        self.add(alloc, item)
     }
 
     // Puts the record in place of the first of its name, or adds it.
