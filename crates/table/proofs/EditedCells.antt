@@ -14,7 +14,7 @@ use Rattle.account_model.specs.Format.{Format}
 use Rattle.account_model.specs.RecordEdits.{IsWrittenEdit}
 use Rattle.account_model.specs.Written.{IsWritten}
 use Rattle.acct_tables.specs.TableLines.{text_is_named}
-use Rattle.line_edits.specs.Naming.{Leaves}
+use Rattle.line_edits.specs.Naming.{LeavesIt}
 use Rattle.acct_tables.specs.Cells.{cell_at, text_added, texts_put}
 use Rattle.acct_tables.specs.declared.cell.Cell.{Cell}
 use Rattle.acct_tables.specs.declared.key_places.Spot.TheVariants.{At}
@@ -64,7 +64,7 @@ module _ {R : Type 0} (format : Format R) where
   left-text :
       (f : R → List R) (text : List ℕ)
       → TellsSame format
-      → Leaves format f text
+      → LeavesIt format f text
       → texts_becoming format f text ≡ text ∷ []
   left-text f text tells leaves = by (format.read text) leaves
     where
@@ -86,10 +86,10 @@ module _ {R : Type 0} (format : Format R) where
   pub left-texts :
       (f : R → List R) (texts : List (List ℕ))
       → TellsSame format
-      → AllByRecursion (Leaves format f) texts
+      → AllByRecursion (LeavesIt format f) texts
       → AllByRecursion (λ text. texts_becoming format f text ≡ text ∷ []) texts
   left-texts f texts tells leaves =
-      All-weaker (Leaves format f) (λ text. texts_becoming format f text ≡ text ∷ [])
+      All-weaker (LeavesIt format f) (λ text. texts_becoming format f text ≡ text ∷ [])
       (λ text left. left-text f text tells left) texts leaves
 
   module _ (keys_of : R → List ℕ) (before after : ℕ → Option (List ℕ)) (place : ℕ) where

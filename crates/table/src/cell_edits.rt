@@ -51,25 +51,7 @@ impl<'a, R: KeyedRecord + Drop> KeyedCells<'a, R> {
     {
         let places = self.touched(alloc, change)?;
         self.wear(visits::<R>(change, places.len()));
-        if self.are_left_at(change, places.as_slice()) {
-            return Ok(false);
-        }
-        self.change_each(alloc, change, places.as_slice())?;
-        Ok(true)
-    }
-
-    // Whether the change surely leaves the records in each of the places.
-    fn are_left_at(&self, change: &R::Change, places: &[usize]) -> bool
-        requires { AllPairs (λ earlier later. earlier < later) places.now }
-        ensures { result ≡ true
-            → self.now ≡ changed_there R.format (R.becomes change.now) places.now self.now }
-    {
-        'places: for place in places {
-            if !self.is_left_at(change, *place) {
-                return false;
-            }
-        }
-        true
+        self.change_each(alloc, change, places.as_slice())
     }
 
     // Notes that an edit comes to so many places by a key.
@@ -79,44 +61,49 @@ impl<'a, R: KeyedRecord + Drop> KeyedCells<'a, R> {
         self.worn = self.worn.saturating_add(count);
     }
 
-    // Puts in each of the places what becomes of the records there.
+    // Puts in each of the places what becomes of the records there, and tells whether one may differ then.
     fn change_each(
         &mut self,
         alloc: Global,
         change: &R::Change,
         places: &[usize],
-    ) -> Result<(), AllocError>
+    ) -> Result<bool, AllocError>
         requires written { IsWrittenEdit R.format (model.Become (R.becomes change.now)) }
         requires ascending { AllPairs (λ earlier later. earlier < later) places.now }
-        ensures { OnOk result (self.new
+        ensures changed { OnOk result (self.new
             ≡ changed_there R.format (R.becomes change.now) places.now self.old) }
+        ensures same { IfOk result (λ differ. differ ≡ false → self.new ≡ self.old) }
     {
+        let mut differ = false;
         'places: for place in places {
-            self.change_at(alloc, change, *place)?;
+            let changes = self.change_at(alloc, change, *place)?;
+            differ = differ || changes;
         }
-        Ok(())
+        Ok(differ)
     }
 
-    // Puts in a place what becomes of the records there.
+    // Puts in a place what becomes of the records there, and tells whether one may differ then.
     fn change_at(
         &mut self,
         alloc: Global,
         change: &R::Change,
         place: usize,
-    ) -> Result<(), AllocError>
+    ) -> Result<bool, AllocError>
         requires { IsWrittenEdit R.format (model.Become (R.becomes change.now)) }
-        ensures { OnOk result (self.new
+        ensures changed { OnOk result (self.new
             ≡ changed_there R.format (R.becomes change.now) (place ∷ []) self.old) }
+        ensures same { IfOk result (λ differ. differ ≡ false → self.new ≡ self.old) }
     {
         if self.is_left_at(change, place) {
-            return Ok(());
+            return Ok(false);
         }
         let Some(cell) = self.file.cell(place) else {
-            return Ok(());
+            return Ok(false);
         };
         let texts = changed_texts::<R>(alloc, cell.texts, change)?;
         R::bring(change, Spot::At(place), &mut self.keys);
-        self.file.put(place, texts)
+        self.file.put(place, texts)?;
+        Ok(true)
     }
 
     // Whether the change surely leaves the records in a place.
@@ -147,10 +134,10 @@ impl<'a, R: KeyedRecord + Drop> KeyedCells<'a, R> {
         ensures { OnOk result (lines_now self.new
             ≡ edited R.format (lines_now self.old) (model.AddMissing item.now)) }
     {
-        match self.place_named(alloc, item.name())? {
-            Some(_place) => Ok(()),
-            None => self.add(alloc, item),
+        if self.has(item.name()) {
+            return Ok(());
         }
+        self.add(alloc, item)
     }
 
     // Puts the record in place of the first of its name, or adds it.

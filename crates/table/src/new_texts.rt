@@ -7,7 +7,7 @@ ghost use Rattle.acct_text.specs.Pieces.{Lacks};
 ghost use Rattle.account_model.specs.Edits as model;
 ghost use Rattle.account_model.specs.RecordEdits.{IsWrittenEdit};
 ghost use Rattle.account_model.specs.Written.{IsWritten};
-ghost use Rattle.line_edits.specs.Naming.{Leaves};
+ghost use Rattle.line_edits.specs.Naming.{LeavesIt};
 ghost use Rattle.table.specs.Changed.{text_becomes, text_instead, text_put, texts_becoming, texts_with};
 
 use acct_tables::{TableRecord, Texts, is_named, read_record};
@@ -17,7 +17,7 @@ use std::alloc::{AllocError, Global};
 
 /// Whether the change surely leaves each record that the texts are. It takes no memory.
 pub(crate) fn are_left<R: EditedRecord>(mut left: Texts<'_>, change: &R::Change) -> bool
-    ensures { result ≡ true → AllByRecursion (Leaves R.format (R.becomes change.now)) left.entry }
+    ensures { result ≡ true → AllByRecursion (LeavesIt R.format (R.becomes change.now)) left.entry }
 {
     'texts: while let Some(text) = left.take() {
         if !R::leaves(change, text) {
