@@ -1,17 +1,16 @@
 //! A table that commands carry from one to the next, what is found in it, and edits of it (passwd(5),
 //! shadow(5), group(5), gshadow(5), subuid(5), subgid(5)).
 //!
-//! A `Table` is its file, of which every call takes a pass (`file_records`), until an index is asked for.
-//! Then a line is known by its place, and the index tells for a key the places where records may have it
+//! A `Table` is the lines of its file in their places, of which every call takes a pass, until an index is
+//! asked for or edits are many (`many`). The index tells for a key the places where records may have it
 //! (`gathering`). A look-up or an edit reads the texts in the places of its key (`reached_places`), one
 //! after another (`texts_there`): they are few, and no other text is a record with the key. `keyed_cells`
 //! looks up by names and tests (`named_texts`), `cell_edits` puts new texts (`new_texts`), and `multiple`
-//! finds the first record that edits touch and whose name has several, edit by edit (`first_met`).
-//! `edited` makes the lines anew now and then. Edits that do the same as one of the last (`last_edits`)
-//! are passed by.
+//! finds the first record that edits touch and whose name has several, edit by edit (`first_met`). Edits
+//! that do the same as one of the last (`last_edits`) are passed by.
 //!
-//! Where there is no index, edits go to the places of lines that have marks of them, and each makes the
-//! file anew (`edited_text`).
+//! Where there is no index, edits go to the places of lines that have marks of them, and the lines are made
+//! anew after each that may change one; with an index they are made anew now and then.
 //!
 //! Each record has the key of its own name; a user has the GID of the primary group for a key too, and a
 //! group each name in its lists (`keys`, `list_keys`, `key_names`). `KeyPlaces` of acct_tables tells for a
