@@ -1,10 +1,9 @@
 use Rattle.std.proofs.Common.{◌≡◌, ◌∙◌, [], ◌∷◌, sym, ap, subst}
-use Rattle.std.proofs.lemmas.Result.{on_ok_weaker}
 use Rattle.acct_tables.specs.Cells.{texts_put}
 use Rattle.acct_tables.specs.KeyPlaces.{told_places}
 use Rattle.table.specs.Changed.{changed_there}
 use Rattle.table.specs.TableCells.{AreKept}
-use Rattle.table.proofs.EditedCells.{changed-kept, either-way, here-lines}
+use Rattle.table.proofs.EditedCells.{changed-kept, here-lines}
 use Rattle.table.proofs.KeptCells.{kept-noted, none-changes, put-changes}
 use Rattle.table.proofs.keyed_cells.KeyedCells.change_at.Goals as goal
 

@@ -1,4 +1,4 @@
-use Rattle.std.proofs.Common.{◌≡◌, ◌∙◌, ap, sym}
+use Rattle.std.proofs.Common.{◌≡◌, ◌∙◌, ap}
 use Rattle.acct_text.specs.Lines.{lines_of}
 use Rattle.acct_tables.specs.Cells.{cells_from, lines_now}
 use Rattle.acct_tables.proofs.PlacedCells.{lines-stand}
