@@ -18,7 +18,7 @@ use Rattle.tool_answers.specs.declared.decision.Decision.TheVariants.{Refuse}
 use Rattle.tool_answers.specs.declared.decision.Output.{Output}
 use Rattle.tool_answers.specs.declared.tool_fault.ToolFault.{ToolFault}
 use Rattle.tool_answers.specs.declared.tool_fault.ToolFault.TheVariants.{Refused}
-use Rattle.table_edits.specs.declared.script.Script.{Script}
+use Rattle.carried_tables.specs.declared.script.Script.{Script}
 use Rattle.suite_tools.specs.Carrying.{AnswersUnder, EditsDecide}
 use Rattle.suite_tools.specs.Deciding.{CommandDecides, LinesDecideUnder}
 use Rattle.suite_tools.specs.declared.answer.Answered.{Answered}
