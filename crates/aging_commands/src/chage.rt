@@ -8,7 +8,7 @@ ghost use Rattle.account_model.specs.Users.{aging_of};
 ghost use Rattle.account_model.specs.Values.{date_value, days_value};
 ghost use Rattle.tool_answers.specs.Refusing.{RefusesBy};
 ghost use Rattle.table_edits.specs.Acting.{ActsBy, IsOutputOf};
-ghost use Rattle.table_edits.specs.SeenScript.{seen_script};
+ghost use Rattle.carried_tables.specs.Scripts.{seen_script};
 ghost use Rattle.table_edits.specs.Stopping.{StopsBy};
 ghost use Rattle.line_edits.specs.ShadowChanges.{given_days};
 ghost use Rattle.aging_commands.specs.AgingFields.{SetsAging};

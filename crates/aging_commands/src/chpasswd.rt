@@ -5,8 +5,7 @@ ghost use Rattle.acct_text.specs.Limits.{table_limit};
 ghost use Rattle.account_model.specs.Chpasswd.{set_hashes, set_user_hash};
 ghost use Rattle.account_model.specs.Tables.{in_order};
 ghost use Rattle.table_edits.specs.Acting.{ActsBy};
-ghost use Rattle.table_edits.specs.Additions.{HasAlso};
-ghost use Rattle.table_edits.specs.SeenScript.{seen_script};
+ghost use Rattle.carried_tables.specs.Scripts.{HasAlso, seen_script};
 ghost use Rattle.aging_commands.specs.HashLines.{script_for, seen_new};
 
 use crate::hash_lines::{NewHash, read_hashes};

@@ -1,10 +1,9 @@
 -- Claims: where IDs go out of the only range of an owner, the table is the one in which what is left of
 -- it is put in its place (`cut-put`), or, where nothing is left, the one without the owner's ranges
--- (`cut-gone`); and the numbers are those of the others with those that are left (`cut-lost`,
--- `cut-made`, `cut-gone-numbers`). Way: the cut leaves the ranges of others, and what is left of the
--- only one has its owner.
-use Rattle.std.proofs.Common.{◌≡◌, ◌∙◌, ℕ, Bool, true, false, List, [], ◌∷◌, ◌++◌, append-nil, get_or, length, refl, sym, ap, subst, inl, inr, if◌then◌else◌}
-use Rattle.std.specs.Prelude.{Option, Some, None, IfSome, bytes_eq, count_by, filter, flat_map, nat_lt}
+-- (`cut-gone`); and the numbers are those of the others with those that are left (`cut-made`). Way: the
+-- cut leaves the ranges of others, and what is left of the only one has its owner.
+use Rattle.std.proofs.Common.{◌≡◌, ◌∙◌, ℕ, Bool, true, false, List, [], ◌∷◌, ◌++◌, append-nil, cond, get_or, length, refl, sym, ap, ap₂, subst, inl, inr, if◌then◌else◌}
+use Rattle.std.specs.Prelude.{Option, Some, None, IfSome, bytes_eq, filter, flat_map, nat_lt, not}
 use Rattle.std.specs.List.{AllByRecursion, cons_option}
 use Rattle.std.proofs.lemmas.Bool.{cases_Bool, false≢true}
 use Rattle.std.proofs.lemmas.Slice.Eq.{bytes_eq-Decides}
@@ -19,7 +18,6 @@ use Rattle.account_model.specs.Tables.{table_after, table_records}
 use Rattle.account_model.specs.Written.{IsWritten}
 use Rattle.account_model.proofs.FormatLaws.{subid-is_format}
 use Rattle.account_model.proofs.ListLaws.{all-filter}
-use Rattle.account_model.specs.FreeRange.{meets}
 use Rattle.account_model.specs.SubidOwner.{is_owned, left_without}
 use Rattle.line_edits.specs.SeenEdits.{seen_edit, seen_edits}
 use Rattle.line_edits.specs.SubidChanges.{subid_becomes}
@@ -31,11 +29,11 @@ use Rattle.line_edits.specs.WrittenLines.{IsWrittenRead, AreWrittenLines}
 use Rattle.line_edits.proofs.WrittenLines.{lines-written}
 use Rattle.subid_ranges.specs.RangeNumbers.{AreNumbersOf}
 use Rattle.subid_ranges.specs.declared.range_numbers.RangeNumbers.{RangeNumbers}
-use Rattle.subid_ranges.proofs.RangeNumbersLemmas.{alike-numbers}
-use Rattle.carried_tables.specs.RangeNumbers.{AreNumbersIn, FollowsGain, FollowsLoss, IsCutBy, IsOnlyOf}
-use Rattle.table.specs.TableEdits.{AreWritten}
+use Rattle.carried_tables.specs.RangeNumbers.{AreNumbersIn, FollowsGain, IsCutBy, IsOnlyOf}
+use Rattle.table.specs.TableEdits.{AreWritten, table_by}
 use Rattle.carried_tables.proofs.EditedTables.{only-one}
-use Rattle.carried_tables.proofs.NumberLemmas.{after-change, counted-parts, left_by, numbers-made}
+use Rattle.carried_tables.proofs.NumberLemmas.{after-change, left_by, numbers-made, others-left}
+use Rattle.carried_tables.proofs.OwnerLemmas.{removal-written}
 use Rattle.carried_tables.proofs.OnlyRange.{all-only, put-table, same-table}
 
 -- what is known, said otherwise
@@ -120,6 +118,16 @@ other-name name uid r other = elim (cases_Bool (bytes_eq r.owner name)) [
   | inr not ↦ not
 ]
 
+-- tests that agree on ranges leave the same
+left-alike :
+    (test other : SubidRecord → Bool) (ranges : List SubidRecord)
+    → AllByRecursion (λ r. test r ≡ other r) ranges
+    → left_by test ranges ≡ left_by other ranges
+left-alike test other [] agree = refl
+left-alike test other (r ∷ ranges) agree =
+    ap₂ (λ (is : Bool) (rest : List SubidRecord). cond (not is) (r ∷ rest) rest) agree.0
+    (left-alike test other ranges agree.1)
+
 module _ (cut : RangeCut) (only : SubidRecord) (file : Option (List ℕ))
     (is : IsOnlyOf cut.owner cut.uid (table_records subid_format file) only) where
   -- the table where what is left is put
@@ -155,24 +163,22 @@ module _ (cut : RangeCut) (only : SubidRecord) (file : Option (List ℕ))
 
   -- ---- The numbers
 
-  -- what is known of the others
-  pub cut-lost :
-      (known lost : Option RangeNumbers)
-      → IfSome known (AreNumbersIn file)
-      → FollowsLoss only known lost
-      → IfSome lost
-      (AreNumbersOf (left_by (is_owned cut.owner cut.uid) (table_records subid_format file)))
-  cut-lost known lost are follows =
-      let test = is_owned cut.owner cut.uid in
+  -- the ranges of others are those of the file without the owner's
+  cut-others :
+      table_records subid_format
+      (table_after subid_format (Become (subid_becomes (Remove cut.owner None)) ∷ []) file)
+      ≡ left_by (is_owned cut.owner cut.uid) (table_records subid_format file)
+  cut-others =
       let ranges = table_records subid_format file in
-      follows (left_by test ranges)
-      (some-weaker (AreNumbersOf ranges) (AreNumbersOf (only ∷ left_by test ranges)) known
-      (λ numbers.
-      alike-numbers ranges (only ∷ left_by test ranges) numbers
-      (λ number.
-      counted-parts test (meets number number) ranges
-      ∙ ap (λ accepted. count_by (meets number number) (accepted ++ left_by test ranges)) is.alone))
-      are)
+      let named : is_owned cut.owner None only ≡ true =
+      (bytes_eq-Decides only.owner cut.owner).1 is.named in
+      after-change (subid_becomes (Remove cut.owner None)) file (removal-written cut.owner None)
+      ∙ others-left cut.owner ranges
+      ∙ left-alike (is_owned cut.owner None) (is_owned cut.owner cut.uid) ranges
+      (all-only (is_owned cut.owner cut.uid)
+      (λ r. is_owned cut.owner None r ≡ is_owned cut.owner cut.uid r)
+      (λ r other. other-name cut.owner cut.uid r other ∙ sym other) only ranges is.alone
+      (named ∙ sym (name-owned cut.owner cut.uid only named)))
 
   -- the numbers of others with those that are left are the ones behind the cut
   made-in :
@@ -199,33 +205,19 @@ module _ (cut : RangeCut) (only : SubidRecord) (file : Option (List ℕ))
 
   -- where something is left
   pub cut-made :
-      (left : SubidRecord) (lost after : Option RangeNumbers)
+      (left : SubidRecord) (others after : Option RangeNumbers)
       → IsWrittenEdit subid_format (Become (subid_becomes (Cut cut)))
       → subid_becomes (Cut cut) only ≡ left ∷ []
       → left.owner ≡ only.owner
-      → IfSome lost
-      (AreNumbersOf (left_by (is_owned cut.owner cut.uid) (table_records subid_format file)))
-      → FollowsGain left lost after
+      → IfSome others (AreNumbersIn
+      (table_after subid_format (Become (subid_becomes (Remove cut.owner None)) ∷ []) file))
+      → FollowsGain left others after
       → IfSome after (AreNumbersIn (table_after subid_format (Put left ∷ []) file))
-  cut-made left lost after written made owner others follows =
+  cut-made left others after written made owner are follows =
       subst (λ table. IfSome after (AreNumbersIn table)) (sym (cut-put left made owner))
       (made-in (left ∷ []) after written made
-      (follows (left_by (is_owned cut.owner cut.uid) (table_records subid_format file)) others))
-
-  -- and where nothing is
-  pub cut-gone-numbers :
-      (lost : Option RangeNumbers)
-      → IsWrittenEdit subid_format (Become (subid_becomes (Cut cut)))
-      → subid_becomes (Cut cut) only ≡ []
-      → IfSome lost
-      (AreNumbersOf (left_by (is_owned cut.owner cut.uid) (table_records subid_format file)))
-      → IfSome lost (AreNumbersIn
-      (table_after subid_format (Become (subid_becomes (Remove cut.owner None)) ∷ []) file))
-  cut-gone-numbers lost written gone others =
-      let left = left_by (is_owned cut.owner cut.uid) (table_records subid_format file) in
-      subst (λ table. IfSome lost (AreNumbersIn table)) (sym (cut-gone gone))
-      (made-in [] lost written gone
-      (subst (λ ranges. IfSome lost (AreNumbersOf ranges)) (sym (append-nil left)) others))
+      (subst (λ ranges. IfSome after (AreNumbersOf (ranges ++ left ∷ []))) cut-others
+      (follows _ are)))
 
   -- ---- What can be written
 
@@ -254,6 +246,32 @@ module _ (cut : RangeCut) (only : SubidRecord) (file : Option (List ℕ))
       left-owner (is_owned cut.owner cut.uid only) cut.first cut.last only left made
 
 -- ---- The edit
+
+-- the only range that is found is that of the file
+pub found-only :
+    (cut : RangeCut) (only : SubidRecord) (file : Option (List ℕ)) (found : Option SubidRecord)
+    (seen : Option (List ℕ))
+    → file ≡ seen
+    → found ≡ Some only
+    → IfSome found (IsOnlyOf cut.owner cut.uid (table_records subid_format seen))
+    → IsOnlyOf cut.owner cut.uid (table_records subid_format file) only
+found-only cut only file found seen same is told =
+    subst (λ file. IsOnlyOf cut.owner cut.uid (table_records subid_format file) only) (sym same)
+    (subst (λ found. IfSome found (IsOnlyOf cut.owner cut.uid (table_records subid_format seen)))
+    is told)
+
+-- what a cut makes of a file the only edit makes of it
+pub edit-cut :
+    (cut : RangeCut) (change : SubidChange) (one : List (Edit SubidRecord SubidChange))
+    → IsCutBy change cut one
+    → (file seen : Option (List ℕ))
+    → file ≡ seen
+    → table_after subid_format (Become (subid_becomes (Cut cut)) ∷ []) file
+    ≡ table_by subid_format subid_becomes one seen
+edit-cut cut change one by file seen same =
+    ap (λ change. table_after subid_format (Become (subid_becomes change) ∷ []) file) (sym by.cuts)
+    ∙ ap (λ edits. table_after subid_format edits file) (sym by.alone)
+    ∙ ap (table_by subid_format subid_becomes one) same
 
 -- the only edit of a list, as it is seen
 pub alone-seen :

@@ -3,7 +3,7 @@
 -- (`kept-counts`, `one-counts`, and `none-counts` where the name has no record). They are those of the
 -- table after an edit (`after-edit`). Way: by how many records have each ID.
 use Rattle.std.proofs.Common.{◌≡◌, ◌∙◌, ℕ, ◌+◌, ◌<◌, ◌≤◌, Bool, true, false, List, [], ◌∷◌, ◌++◌, cond, map, refl, sym, ap, ap₂, subst, inl, inr, arith, zero-add, length, take, get_or}
-use Rattle.std.specs.Prelude.{Option, Some, None, is_some, find, flat_map, nat_le, not, option_map, if◌then◌else◌, ◌==◌, ◌&&◌, ◌||◌}
+use Rattle.std.specs.Prelude.{Option, Some, None, IfSome, is_some, find, flat_map, nat_le, not, option_map, if◌then◌else◌, ◌==◌, ◌&&◌, ◌||◌}
 use Rattle.std.proofs.lemmas.Bool.{cases_Bool, cases_eq, cases_lt, eq-eqb, false≢true, le-leb, leb-true, ne_eqb}
 use Rattle.std.proofs.lemmas.List.{map-append, take_more}
 use Rattle.std.proofs.lemmas.List.Sums.{sum_by-append, sum_by-cons}
@@ -65,7 +65,7 @@ used-counts (first ∷ ids) id =
     ∙ ap (nat_le 1) (sym (counts-more first id ids))
 
 -- so the used ones are those of the records
-pub kept-used :
+kept-used :
     (kept : KeptIds) (ids : List ℕ) → AreIdsOf kept (counts_of ids) → AreThoseOf kept.used ids
 kept-used kept ids are = λ id. are.used id ∙ sym (used-counts ids id)
 
@@ -219,7 +219,8 @@ pub both-follow :
     → FollowSwap old new lost gained
 both-follow old mid new lost gained gains loses = λ before after are swap.
     let between : ℕ → ℕ = λ id. before id + counts_of gained id in
-    loses between after (gains before between are (λ id. plus-none refl)) (λ id. more-none (after id + counts_of lost id) (between id) (swap id))
+    loses between after (gains before between are (λ id. plus-none refl)) (λ id. more-none
+    (after id + counts_of lost id) (between id) (swap id))
 
 -- ---- What changes do
 
@@ -342,6 +343,18 @@ module _ {R : Type 0} (format : Format R) (id_of : R → ℕ) where
       subst (λ records. AreIdsOf kept (counts_of (map id_of records)))
       (sym (table-edited format tells none (edit ∷ []) text (written, tt))) are
 
+  -- the used IDs that are known beside a file are those of its records
+  pub known-used :
+      (known : Option KeptIds) (ids : KeptIds) (file seen : Option (List ℕ))
+      → IfSome known (λ ids. AreIdsOf ids (table_counts format id_of file))
+      → known ≡ Some ids
+      → file ≡ seen
+      → AreThoseOf ids.used (map id_of (table_records format seen))
+  known-used known ids file seen are is same =
+      kept-used ids (map id_of (table_records format seen))
+      (subst (λ file. AreIdsOf ids (table_counts format id_of file)) same
+      (subst (λ found. IfSome found (λ ids. AreIdsOf ids (table_counts format id_of file))) is are))
+
 -- an ID is used exactly where a record with it is found
 pub used-found :
     {R : Type 0} (id_of : R → ℕ) (id : ℕ) (records : List R)
@@ -351,9 +364,3 @@ used-found id_of id (r ∷ records) = elim (cases_Bool (id_of r == id)) [
   | inl same ↦ rw same refl
   | inr other ↦ rw other (used-found id_of id records)
 ]
-
--- what isn't there has no ID
-pub none-told :
-    {R : Type 0} (id_of : R → ℕ) (found : Option R) → None ≡ option_map id_of found → found ≡ None
-none-told id_of None is = refl
-none-told id_of (Some r) is = absurd cc

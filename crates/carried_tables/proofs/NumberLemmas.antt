@@ -1,9 +1,9 @@
 -- Claims: the numbers of ranges are those of the table after a range is added (`numbers-added`), after
--- a change that keeps them (`numbers-kept`), as of an owner's name (`renamed-keep`), and after the
--- ranges of an owner go (`numbers-lost`). Way: the ranges after an edit are the ranges, edited
--- (`after-edit`), and each number is counted in those of the owner and in the others.
+-- an owner gets another name (`numbers-kept`), and after the ranges of an owner go (`numbers-lost`).
+-- Way: the ranges after an edit are the ranges, edited (`after-edit`), and each number is counted in those
+-- of the owner and in the others.
 use Rattle.std.proofs.Common.{◌≡◌, ◌∙◌, ℕ, ◌+◌, Bool, true, false, List, [], ◌∷◌, ◌++◌, cond, refl, sym, ap, ap₂, subst, inl, inr, arith, if◌then◌else◌}
-use Rattle.std.specs.Prelude.{Option, Some, None, IfSome, count_by, filter, flat_map, is_some, not}
+use Rattle.std.specs.Prelude.{Option, Some, None, IfSome, count_by, filter, flat_map, is_some, map, not}
 use Rattle.std.proofs.lemmas.Bool.{cases_Bool}
 use Rattle.std.proofs.lemmas.List.Sums.{sum_by-append, sum_by-cons}
 use Rattle.account_model.specs.declared.records.SubidRecord.{SubidRecord}
@@ -23,7 +23,7 @@ use Rattle.subid_ranges.specs.Owned.{first_and_count}
 use Rattle.subid_ranges.specs.RangeNumbers.{AreNumbersOf, LosesRanges}
 use Rattle.subid_ranges.specs.declared.range_numbers.RangeNumbers.{RangeNumbers}
 use Rattle.subid_ranges.proofs.RangeNumbersLemmas.{alike-numbers, renamed-numbers}
-use Rattle.carried_tables.specs.RangeNumbers.{AreNumbersIn, KeepsNumbers}
+use Rattle.carried_tables.specs.RangeNumbers.{AreNumbersIn}
 use Rattle.carried_tables.proofs.OwnerLemmas.{removal-written}
 
 -- the ranges of a file that is there are after an edit the ranges, edited
@@ -70,24 +70,28 @@ renamed-by r new true = refl
 renamed-by r new false = refl
 
 -- so all do
-pub renamed-keep : (old new : List ℕ) → KeepsNumbers (subid_becomes (Rename old new))
+renamed-keep :
+    (old new : List ℕ) (ranges : List SubidRecord)
+    → map first_and_count ranges
+    ≡ map first_and_count (flat_map (subid_becomes (Rename old new)) ranges)
 renamed-keep old new [] = refl
 renamed-keep old new (r ∷ ranges) =
     ap₂ (λ first rest. first ∷ rest) (renamed-by r new (is_named subid_format old r))
     (renamed-keep old new ranges)
 
--- the numbers that are known of the file are those of the file after a change that keeps them
+-- the numbers that are known of the file are those of the file with the name
 pub numbers-kept :
-    (f : SubidRecord → List SubidRecord) (file : Option (List ℕ)) (known : Option RangeNumbers)
-    → IsWrittenEdit subid_format (Become f)
-    → KeepsNumbers f
+    (old new : List ℕ) (file : Option (List ℕ)) (known : Option RangeNumbers)
+    → IsWrittenEdit subid_format (Become (subid_becomes (Rename old new)))
     → IfSome known (AreNumbersIn file)
-    → IfSome known (AreNumbersIn (table_after subid_format (Become f ∷ []) file))
-numbers-kept f file None written keeps are = are
-numbers-kept f file (Some numbers) written keeps are =
+    → IfSome known
+    (AreNumbersIn (table_after subid_format (Become (subid_becomes (Rename old new)) ∷ []) file))
+numbers-kept old new file None written are = are
+numbers-kept old new file (Some numbers) written are =
+    let f = subid_becomes (Rename old new) in
     let ranges = table_records subid_format file in
     subst (λ ranges. AreNumbersOf ranges numbers) (sym (after-change f file written))
-    (renamed-numbers ranges (flat_map f ranges) numbers (keeps ranges) are)
+    (renamed-numbers ranges (flat_map f ranges) numbers (renamed-keep old new ranges) are)
 
 -- ---- Ranges that go, or become others
 
@@ -180,7 +184,7 @@ module _ (owner : List ℕ) where
   first-left false r rest left same = ap (λ rest. r ∷ rest) same
 
   -- those of others are left
-  others-left :
+  pub others-left :
       (ranges : List SubidRecord)
       → flat_map (subid_becomes (Remove owner None)) ranges
       ≡ left_by (is_named subid_format owner) ranges

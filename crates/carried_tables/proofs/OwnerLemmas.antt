@@ -21,7 +21,10 @@ use Rattle.line_edits.specs.SubidChanges.{subid_becomes}
 use Rattle.line_edits.specs.declared.subid_changes.SubidChange.TheVariants.{Remove}
 use Rattle.line_edits.proofs.ChangedLines.{other-line, record-line}
 use Rattle.table.specs.Accepting.{is_accepted}
+use Rattle.subid_ranges.proofs.OwnedLemmas.{owned-either}
+use Rattle.carried_tables.specs.RangeNumbers.{is_numbered}
 use Rattle.carried_tables.proofs.EditedTables.{table-step}
+use Rattle.carried_tables.proofs.OwnedRanges.{none-numbered}
 
 -- ---- Owners
 
@@ -41,6 +44,20 @@ owned-named owner [] = refl
 owned-named owner (r ∷ ranges) =
     sym (named-by (bytes_eq r.owner owner) r (list_any (is_owned owner None) ranges)
     (find_named subid_format owner ranges) (sym (owned-named owner ranges)))
+
+-- or the text of the UID, where it is known, is the owner
+pub owned-either-way :
+    (name : List ℕ) (uid : Option ℕ) (ranges : List SubidRecord)
+    → (has_named subid_format name ranges || list_any (is_numbered uid) ranges)
+    ≡ list_any (is_owned name uid) ranges
+owned-either-way name None ranges =
+    ap₂ (λ (named numbered : Bool). named || numbered) (owned-named name ranges)
+    (none-numbered ranges)
+    ∙ or-false (list_any (is_owned name None) ranges)
+owned-either-way name (Some uid) ranges =
+    ap (λ (named : Bool). named || list_any (is_numbered (Some uid)) ranges)
+    (owned-named name ranges)
+    ∙ sym (owned-either name uid ranges)
 
 -- ---- Ranges that go
 

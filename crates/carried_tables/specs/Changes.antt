@@ -11,16 +11,16 @@ abbrev pub StandWhere : Files → Files → Type 0
 StandWhere first last =
     (table : Tab) → is_some (table_of last table) ≡ is_some (table_of first table)
 
--- whether the table may be edited
-abbrev pub is_edited : TouchedTables → Tab → Bool
-is_edited edited Passwd = edited.passwd
-is_edited edited Shadow = edited.shadow
-is_edited edited Group = edited.group
-is_edited edited Gshadow = edited.gshadow
-is_edited edited Subuid = edited.subuid
-is_edited edited Subgid = edited.subgid
+-- whether the table may differ
+abbrev pub is_touched : TouchedTables → Tab → Bool
+is_touched touched Passwd = touched.passwd
+is_touched touched Shadow = touched.shadow
+is_touched touched Group = touched.group
+is_touched touched Gshadow = touched.gshadow
+is_touched touched Subuid = touched.subuid
+is_touched touched Subgid = touched.subgid
 
--- each table that isn't edited is the first one
+-- each table that may not is the first one
 abbrev pub UneditedStay : TouchedTables → Files → Files → Type 0
-UneditedStay edited first last = (table : Tab) → is_edited edited table ≡ false
+UneditedStay touched first last = (table : Tab) → is_touched touched table ≡ false
     → table_of last table ≡ table_of first table

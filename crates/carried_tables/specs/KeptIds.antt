@@ -10,6 +10,8 @@ use Rattle.line_edits.specs.declared.group_changes.GroupAct.{GroupAct}
 use Rattle.line_edits.specs.declared.group_changes.GroupAct.TheVariants.{SetGid}
 use Rattle.line_edits.specs.declared.passwd_changes.PasswdAct.{PasswdAct}
 use Rattle.line_edits.specs.declared.passwd_changes.PasswdAct.TheVariants.{SetFields}
+use Rattle.carried_tables.specs.declared.kept_ids.IdsInUse.{IdsInUse}
+use Rattle.carried_tables.specs.declared.kept_ids.IdsInUse.TheVariants.{Gathered, Kept}
 use Rattle.carried_tables.specs.declared.kept_ids.KeptIds.{KeptIds}
 
 -- ---- What is kept
@@ -47,6 +49,11 @@ FollowEdit format id_of old new records edit =
 -- the line of each record has the decimal text of its ID
 abbrev pub AreNumbered : {R : Type 0} → Format R → (R → ℕ) → Type 0
 AreNumbered format id_of = (id : ℕ) → IsNumberOf format (λ r. id_of r == id) id
+
+-- the IDs, gathered for one question or kept
+abbrev pub ids_in : IdsInUse → List ℕ
+ids_in (Gathered ids) = ids
+ids_in (Kept ids) = ids.now
 
 -- ---- What changes do
 

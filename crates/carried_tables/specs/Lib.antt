@@ -1,5 +1,5 @@
 pub mod RangeNumbers
-pub mod InUse
 pub mod Changes
 pub mod KeptIds
 pub mod RangeRemovals
+pub mod Scripts

@@ -1,6 +1,6 @@
 -- What is known of the ranges of a file while edits change it (subuid(5), subgid(5)), and which edits
 -- it follows (useradd(8), userdel(8), usermod(8), `-l`, `-V` and `-W`).
-use Rattle.std.specs.Prelude.{◌≡◌, ℕ, Bool, false, List, [], ◌∷◌, ◌++◌, bytes_eq, decimal, filter, flat_map, map, IfSome, Option, None, Some}
+use Rattle.std.specs.Prelude.{◌≡◌, ℕ, Bool, false, List, [], ◌∷◌, ◌++◌, bytes_eq, decimal, filter, IfSome, Option, None, Some}
 use Rattle.account_model.specs.Edits.Edit.{Become}
 use Rattle.account_model.specs.Records.{subid_format}
 use Rattle.account_model.specs.Tables.{table_records}
@@ -12,7 +12,6 @@ use Rattle.line_edits.specs.declared.subid_changes.SubidChange.{SubidChange}
 use Rattle.line_edits.specs.declared.subid_changes.SubidChange.TheVariants.{Cut}
 use Rattle.line_edits.specs.SeenEdits.{seen_edits}
 use Rattle.line_edits.specs.SubidChanges.{subid_becomes}
-use Rattle.subid_ranges.specs.Owned.{first_and_count}
 use Rattle.subid_ranges.specs.RangeNumbers.{AreNumbersOf}
 use Rattle.subid_ranges.specs.declared.range_numbers.RangeNumbers.{RangeNumbers}
 
@@ -20,14 +19,9 @@ use Rattle.subid_ranges.specs.declared.range_numbers.RangeNumbers.{RangeNumbers}
 abbrev pub AreNumbersIn : Option (List ℕ) → RangeNumbers → Type 0
 AreNumbersIn file numbers = AreNumbersOf (table_records subid_format file) numbers
 
--- whatever the ranges are, they take by f the numbers that they have, each as many
-abbrev pub KeepsNumbers : (SubidRecord → List SubidRecord) → Type 0
-KeepsNumbers f =
-    (ranges : List SubidRecord)
-    → map first_and_count ranges ≡ map first_and_count (flat_map f ranges)
-
 -- the edits are one alone, by a change that takes these IDs out of ranges
-pub record IsCutBy (change : SubidChange) (cut : RangeCut) (edits : List (Edit SubidRecord SubidChange))
+pub record IsCutBy (change : SubidChange) (cut : RangeCut) (edits : List
+    (Edit SubidRecord SubidChange))
     : Type 0 where
   pub alone : seen_edits subid_becomes edits ≡ Become (subid_becomes change) ∷ []
   pub cuts : change ≡ Cut cut
@@ -38,19 +32,13 @@ is_numbered None r = false
 is_numbered (Some uid) r = bytes_eq r.owner (decimal uid)
 
 -- the range is the only one whose owner is the name or the text of the UID, and has the name
-pub record IsOnlyOf (name : List ℕ) (uid : Option ℕ) (ranges : List SubidRecord) (only : SubidRecord)
+pub record IsOnlyOf (name : List ℕ) (uid : Option ℕ) (ranges : List SubidRecord)
+    (only : SubidRecord)
     : Type 0 where
   pub alone : filter (is_owned name uid) ranges ≡ only ∷ []
   pub named : only.owner ≡ name
 
--- whatever the other ranges are, what was known of them with this one is known without it, if any
-abbrev pub FollowsLoss : SubidRecord → Option RangeNumbers → Option RangeNumbers → Type 0
-FollowsLoss r known lost =
-    (others : List SubidRecord)
-    → IfSome known (AreNumbersOf (r ∷ others))
-    → IfSome lost (AreNumbersOf others)
-
--- and what was known of them alone is known with one more
+-- whatever other ranges are, what was known of them is known with one more, if any
 abbrev pub FollowsGain : SubidRecord → Option RangeNumbers → Option RangeNumbers → Type 0
 FollowsGain r known gained =
     (others : List SubidRecord)

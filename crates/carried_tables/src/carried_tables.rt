@@ -1,26 +1,22 @@
 // The tables that commands carry from one to the next (passwd(5), shadow(5), group(5), gshadow(5),
 // subuid(5), subgid(5)).
-ghost use Rattle.std.specs.Prelude.{◌≡◌, ◌++◌, [], ℕ, List, Option, is_some, IfOk, OnOk};
+ghost use Rattle.std.specs.Prelude.{◌≡◌, ◌++◌, [], false, is_some, IfOk, OnOk};
 ghost use Rattle.acct_text.specs.ChangedTables.{changed_bytes, changed_tables, with_new_table};
 ghost use Rattle.acct_text.specs.Files.{table_of};
-ghost use Rattle.account_model.specs.Records.{group_format, gshadow_format, passwd_format, shadow_format, subid_format};
-ghost use Rattle.line_edits.specs.GroupChanges.{group_becomes};
-ghost use Rattle.line_edits.specs.GshadowChanges.{gshadow_becomes};
-ghost use Rattle.line_edits.specs.PasswdChanges.{passwd_becomes};
-ghost use Rattle.line_edits.specs.ShadowChanges.{shadow_becomes};
-ghost use Rattle.line_edits.specs.SubidChanges.{subid_becomes};
-ghost use Rattle.table.specs.Standing.{IsTaken};
-ghost use Rattle.table.specs.TableEdits.{AreWritten, table_by};
-ghost use Rattle.carried_tables.specs.Changes.{UneditedStay, StandWhere};
+ghost use Rattle.account_model.specs.Action.{multiple_entries};
+ghost use Rattle.account_model.specs.WrittenScript.{IsWrittenScript};
+ghost use Rattle.carried_tables.specs.Changes.{UneditedStay, StandWhere, is_touched};
+ghost use Rattle.carried_tables.specs.Scripts.{CarriesOut, seen_script};
 
-use crate::touched_tables::take_edited;
-use crate::{IdTable, RangeTable, TouchedTables};
-use acct_lines::{GroupRecord, GshadowRecord, PasswdRecord, ShadowRecord, SubidRecord};
-use acct_text::{Bytes, Files, NewTables, Tab};
-use line_edits::{Edit, GroupChange, GshadowChange, PasswdChange, ShadowChange, SubidChange};
+use crate::{IdTable, RangeTable, Script, TouchedTables};
+use account_model::Refusal;
+use acct_lines::{GroupRecord, GshadowRecord, PasswdRecord, ShadowRecord};
+use acct_text::{Files, NewTables, Tab};
 use std::alloc::{AllocError, Global};
 use std::marker::Model;
-use table::Table;
+use std::mem::replace;
+use table::{KeyedRecord, Table};
+use tool_answers::ToolFault;
 
 /// The six tables. Where an index is asked for, a command takes no pass over all records of a table for
 /// what it looks up by name, for the IDs that are used, and for edits of records that it names. Contracts
@@ -65,24 +61,23 @@ impl<'a> Model for CarriedTables<'a> {
 
 impl<'a> CarriedTables<'a> {
     /// The tables of the files, whose bytes are lent and not looked at.
-    pub fn of(files: &'a Files) -> Self
+    pub fn of(alloc: Global, files: &'a Files) -> Self
         ensures { result ≡ files.now }
     {
         CarriedTables {
-            passwd: IdTable::lent(&files.passwd),
-            shadow: Table::lent(&files.shadow),
-            group: IdTable::lent(&files.group),
-            gshadow: Table::lent(&files.gshadow),
-            subuid: RangeTable::lent(&files.subuid),
-            subgid: RangeTable::lent(&files.subgid),
+            passwd: IdTable::lent(alloc, &files.passwd),
+            shadow: Table::lent(alloc, &files.shadow),
+            group: IdTable::lent(alloc, &files.group),
+            gshadow: Table::lent(alloc, &files.gshadow),
+            subuid: RangeTable::lent(alloc, &files.subuid),
+            subgid: RangeTable::lent(alloc, &files.subgid),
         }
     }
 
     /// Makes an index of each table, that of subuid(5) and of subgid(5) at its first edit, and gathers the
-    /// IDs of users and groups. It serves commands that follow one another. At `AllocError` some of the
-    /// tables may be gone.
+    /// IDs of users and groups. It serves commands that follow one another.
     pub fn index(&mut self, alloc: Global) -> Result<(), AllocError>
-        ensures { OnOk result (self.new ≡ self.old) }
+        ensures { self.new ≡ self.old }
     {
         self.subuid.index();
         self.subgid.index();
@@ -90,19 +85,17 @@ impl<'a> CarriedTables<'a> {
         self.index_groups(alloc)
     }
 
-    /// Makes an index of passwd(5), with its UIDs, and of shadow(5). At `AllocError` one of them may be
-    /// gone.
+    /// Makes an index of passwd(5), with its UIDs, and of shadow(5).
     pub fn index_users(&mut self, alloc: Global) -> Result<(), AllocError>
-        ensures { OnOk result (self.new ≡ self.old) }
+        ensures { self.new ≡ self.old }
     {
         self.passwd.index(alloc)?;
         self.shadow.index(alloc)
     }
 
-    /// Makes an index of group(5), with its GIDs, and of gshadow(5). At `AllocError` one of them may be
-    /// gone.
+    /// Makes an index of group(5), with its GIDs, and of gshadow(5).
     pub fn index_groups(&mut self, alloc: Global) -> Result<(), AllocError>
-        ensures { OnOk result (self.new ≡ self.old) }
+        ensures { self.new ≡ self.old }
     {
         self.group.index(alloc)?;
         self.gshadow.index(alloc)
@@ -150,85 +143,103 @@ impl<'a> CarriedTables<'a> {
         &self.subgid
     }
 
-    /// Carries out the edits of the tables, those of each in their order. At `AllocError` some of them may
-    /// be, and a table may be gone.
-    pub fn edit(
-        &mut self,
-        alloc: Global,
-        passwd: &[Edit<PasswdRecord, PasswdChange>],
-        shadow: &[Edit<ShadowRecord, ShadowChange>],
-        group: &[Edit<GroupRecord, GroupChange>],
-        gshadow: &[Edit<GshadowRecord, GshadowChange>],
-        subuid: &[Edit<SubidRecord, SubidChange>],
-        subgid: &[Edit<SubidRecord, SubidChange>],
-    ) -> Result<(), AllocError>
-        requires passwd { AreWritten passwd_format passwd_becomes passwd.now }
-        requires shadow { AreWritten shadow_format shadow_becomes shadow.now }
-        requires group { AreWritten group_format group_becomes group.now }
-        requires gshadow { AreWritten gshadow_format gshadow_becomes gshadow.now }
-        requires subuid { AreWritten subid_format subid_becomes subuid.now }
-        requires subgid { AreWritten subid_format subid_becomes subgid.now }
-        ensures { OnOk result (self.new ≡ record {
-          passwd = table_by passwd_format passwd_becomes passwd.now self.old.passwd;
-          shadow = table_by shadow_format shadow_becomes shadow.now self.old.shadow;
-          group = table_by group_format group_becomes group.now self.old.group;
-          gshadow = table_by gshadow_format gshadow_becomes gshadow.now self.old.gshadow;
-          subuid = table_by subid_format subid_becomes subuid.now self.old.subuid;
-          subgid = table_by subid_format subid_becomes subgid.now self.old.subgid;
-        }) }
+    /// Carries out the script of a tool, the edits of each table in their order, and tells the tables that
+    /// may differ then.
+    ///
+    /// At `Refused` the script would touch a record whose name has several records in its table, the first
+    /// in the order passwd, shadow, group, gshadow, and the tables are as before. At `Memory` some of the
+    /// edits may be made, and a table may be gone.
+    pub fn carry_out(&mut self, alloc: Global, script: &Script) -> Result<TouchedTables, ToolFault>
+        requires { IsWrittenScript (seen_script script.now) }
+        ensures { CarriesOut (seen_script script.now) self.old self.new result }
     {
-        self.passwd.edit(alloc, passwd)?;
-        self.shadow.edit(alloc, shadow)?;
-        self.group.edit(alloc, group)?;
-        self.gshadow.edit(alloc, gshadow)?;
-        self.subuid.edit(alloc, subuid)?;
-        self.subgid.edit(alloc, subgid)
+        if let Some(refusal) = self.first_multiple(alloc, script)? {
+            return Err(ToolFault::Refused(refusal));
+        }
+        Ok(TouchedTables {
+            passwd: self.passwd.edit(alloc, &script.passwd)?,
+            shadow: self.shadow.edit(alloc, &script.shadow)?,
+            group: self.group.edit(alloc, &script.group)?,
+            gshadow: self.gshadow.edit(alloc, &script.gshadow)?,
+            subuid: self.subuid.edit(alloc, &script.subuid)?,
+            subgid: self.subgid.edit(alloc, &script.subgid)?,
+        })
     }
 
-    /// Takes the tables out that differ from the first ones, in the fixed order, in a pass over each that
-    /// is edited. What a table holds is let go before the bytes of the next are made. At `AllocError`
-    /// some of the tables are gone.
+    // The refusal of the first record that the script touches and whose name has several.
+    fn first_multiple(
+        &mut self,
+        alloc: Global,
+        script: &Script,
+    ) -> Result<Option<Refusal>, AllocError>
+        requires { IsWrittenScript (seen_script script.now) }
+        ensures refusal { IfOk result (λ refusal.
+            refusal ≡ multiple_entries (seen_script script.now) self.old) }
+        ensures same { self.new ≡ self.old }
+    {
+        if let Some(name) = self.passwd.first_multiple(alloc, &script.passwd)? {
+            return Ok(Some(Refusal::Multiple(Tab::Passwd, name)));
+        }
+        if let Some(name) = self.shadow.first_multiple(alloc, &script.shadow)? {
+            return Ok(Some(Refusal::Multiple(Tab::Shadow, name)));
+        }
+        if let Some(name) = self.group.first_multiple(alloc, &script.group)? {
+            return Ok(Some(Refusal::Multiple(Tab::Group, name)));
+        }
+        if let Some(name) = self.gshadow.first_multiple(alloc, &script.gshadow)? {
+            return Ok(Some(Refusal::Multiple(Tab::Gshadow, name)));
+        }
+        Ok(None)
+    }
+
+    /// Takes the tables out that differ from the first ones, in the fixed order, among those that may. What
+    /// a table holds is let go before the bytes of the next are made.
     pub fn take_changes(
         &mut self,
         alloc: Global,
         first: &Files,
-        edited: TouchedTables,
+        touched: TouchedTables,
     ) -> Result<NewTables, AllocError>
         requires stand { StandWhere first.now self.old }
-        requires left { UneditedStay edited first.now self.old }
+        requires left { UneditedStay touched first.now self.old }
         ensures { IfOk result (λ tables.
             tables ≡ changed_tables (table_of first.now) (table_of self.old)) }
     {
         let mut tables = NewTables::none(alloc);
-        let passwd = self.passwd.take_edited(edited.passwd, &first.passwd)?;
-        push_new(&mut tables, Tab::Passwd, &first.passwd, passwd)?;
-        let shadow = take_edited(&mut self.shadow, edited.shadow, &first.shadow)?;
-        push_new(&mut tables, Tab::Shadow, &first.shadow, shadow)?;
-        let group = self.group.take_edited(edited.group, &first.group)?;
-        push_new(&mut tables, Tab::Group, &first.group, group)?;
-        let gshadow = take_edited(&mut self.gshadow, edited.gshadow, &first.gshadow)?;
-        push_new(&mut tables, Tab::Gshadow, &first.gshadow, gshadow)?;
-        let subuid = self.subuid.take_edited(edited.subuid, &first.subuid)?;
-        push_new(&mut tables, Tab::Subuid, &first.subuid, subuid)?;
-        let subgid = self.subgid.take_edited(edited.subgid, &first.subgid)?;
-        push_new(&mut tables, Tab::Subgid, &first.subgid, subgid)?;
+        let passwd = self.passwd.take(alloc);
+        push_change(&mut tables, Tab::Passwd, first, touched, passwd)?;
+        let shadow = replace(&mut self.shadow, Table::owning(alloc, None));
+        push_change(&mut tables, Tab::Shadow, first, touched, shadow)?;
+        let group = self.group.take(alloc);
+        push_change(&mut tables, Tab::Group, first, touched, group)?;
+        let gshadow = replace(&mut self.gshadow, Table::owning(alloc, None));
+        push_change(&mut tables, Tab::Gshadow, first, touched, gshadow)?;
+        let subuid = self.subuid.take(alloc);
+        push_change(&mut tables, Tab::Subuid, first, touched, subuid)?;
+        let subgid = self.subgid.take(alloc);
+        push_change(&mut tables, Tab::Subgid, first, touched, subgid)?;
         Ok(tables)
     }
 }
 
-// Adds the table where it has new bytes. None is made, and none goes.
-fn push_new(
+// Adds the table where it differs from the first one, for which it is looked at where it may.
+fn push_change<R: KeyedRecord + Drop>(
     tables: &mut NewTables,
-    table: Tab,
-    first: &Option<Bytes>,
-    new: Option<Bytes>,
+    tab: Tab,
+    first: &Files,
+    touched: TouchedTables,
+    mut table: Table<'_, R>,
 ) -> Result<(), AllocError>
-    ensures { (last : Option (List ℕ)) → is_some last ≡ is_some first.now
-        → IsTaken first.now last new → OnOk result (tables.new ≡ tables.old
-        ++ with_new_table table (changed_bytes first.now last) []) }
+    requires stands { is_some table ≡ is_some (table_of first.now tab) }
+    requires left { is_touched touched tab ≡ false → table ≡ table_of first.now tab }
+    ensures { OnOk result (tables.new ≡ tables.old
+        ++ with_new_table tab (changed_bytes (table_of first.now tab) table.entry) []) }
 {
-    match (first, new) {
-        (Some(first), Some(new)) => tables.push(table, first, new),
+    if !touched.has(tab) {
+        return Ok(());
+    }
+    match (first.table(tab), table.take()?) {
+        (Some(first), Some(new)) => tables.push(tab, first, new),
         _ => Ok(()),
     }
 }

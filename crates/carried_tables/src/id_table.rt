@@ -1,25 +1,24 @@
 // A carried table whose records have IDs, beside which the used IDs are kept (passwd(5), group(5)).
-ghost use Rattle.std.specs.Prelude.{◌≡◌, ◌≤◌, List, ◌∷◌, [], None, false, true, is_some, length, map, option_map, IfOk, IfSome, OnOk};
+ghost use Rattle.std.specs.Prelude.{◌≡◌, ◌≤◌, List, ◌∷◌, [], false, true, is_some, length, map, IfOk, IfSome, OnOk};
 ghost use Rattle.account_model.specs.Edits as model;
-ghost use Rattle.account_model.specs.Format.{find_named};
 ghost use Rattle.account_model.specs.RecordEdits.{IsWrittenEdit};
 ghost use Rattle.account_model.specs.Tables.{table_after, table_records};
 ghost use Rattle.account_model.specs.Ids.{is_used};
 ghost use Rattle.id_choice.specs.Used.{AreThoseOf};
 ghost use Rattle.line_edits.specs.SeenEdits.{seen_edit};
-ghost use Rattle.carried_tables.specs.KeptIds.{AreIdsOf, FollowEdit, Renumbers, table_counts};
-ghost use Rattle.table.specs.Standing.{IsTaken};
-ghost use Rattle.table.specs.TableEdits.{AreWritten, table_by};
+ghost use Rattle.carried_tables.specs.KeptIds.{AreIdsOf, FollowEdit, Renumbers, ids_in, table_counts};
+ghost use Rattle.table.specs.TableEdits.{AreWritten, multiple_by, table_by};
 
 use crate::IdsInUse;
-use crate::ids::{IdRecord, OfId, Renumbering, used_ids};
+use crate::ids::{IdRecord, OfId, Renumbering};
 use crate::kept_ids::KeptIds;
-use crate::touched_tables::take_edited;
 use acct_tables::listed_ids;
 use acct_text::Bytes;
+use id_choice::UsedIds;
 use line_edits::Edit;
 use std::alloc::{AllocError, Global};
 use std::marker::Model;
+use std::mem::replace;
 use table::Table;
 
 /// A table of the records R, and their IDs where they were gathered. Contracts see it as the bytes of
@@ -51,38 +50,29 @@ impl<'a, R: IdRecord> Model for IdTable<'a, R> {
 
 impl<'a, R: IdRecord + Drop> IdTable<'a, R> {
     /// The table of this file, which is kept elsewhere and absent where there is none.
-    pub(crate) fn lent(file: &'a Option<Bytes>) -> Self
+    pub(crate) fn lent(alloc: Global, file: &'a Option<Bytes>) -> Self
         ensures { result ≡ file.now }
     {
         IdTable {
-            table: Table::lent(file),
+            table: Table::lent(alloc, file),
             ids: None,
         }
     }
 
-    /// Makes the index of the table and gathers the IDs, in a pass each, unless that is done. At
-    /// `AllocError` the table is gone.
+    /// Makes the index of the table and gathers the IDs, in a pass each, unless that is done.
     pub(crate) fn index(&mut self, alloc: Global) -> Result<(), AllocError>
-        ensures { OnOk result (self.new ≡ self.old) }
+        ensures { self.new ≡ self.old }
     {
-        let known = self.ids.take();
         self.table.index(alloc)?;
-        self.ids = known;
         self.gather(alloc)
     }
 
-    /// Takes the bytes of the file out, and lets the rest go; none where it isn't edited, or is lent still
-    /// and the same as this one. They are made in a pass over the lines where the table has an index.
-    pub(crate) fn take_edited(
-        &mut self,
-        is_edited: bool,
-        first: &Option<Bytes>,
-    ) -> Result<Option<Bytes>, AllocError>
-        requires { is_edited ≡ false → self.old ≡ first.now }
-        ensures { IfOk result (IsTaken first.now self.old) }
+    /// Takes the table out, without the IDs.
+    pub(crate) fn take(&mut self, alloc: Global) -> Table<'a, R>
+        ensures { result ≡ self.old }
     {
         self.ids = None;
-        take_edited(&mut self.table, is_edited, first)
+        replace(&mut self.table, Table::owning(alloc, None))
     }
 
     /// The table, for what doesn't ask for IDs.
@@ -95,15 +85,20 @@ impl<'a, R: IdRecord + Drop> IdTable<'a, R> {
     /// The IDs of all records, which are gathered for this call where they aren't known.
     pub fn used(&self, alloc: Global) -> Result<IdsInUse<'_>, AllocError>
         ensures { IfOk result (λ used.
-            AreThoseOf used (map R.id_of (table_records R.format self.now))) }
+            AreThoseOf (ids_in used) (map R.id_of (table_records R.format self.now))) }
     {
         match &self.ids {
-            Some(ids) => Ok(IdsInUse::kept(&ids.used)),
-            None => {
-                let ids = used_ids::<R>(alloc, self.table.seen()?.file())?;
-                Ok(IdsInUse::gathered(ids))
-            }
+            Some(ids) => Ok(IdsInUse::Kept(&ids.used)),
+            None => Ok(IdsInUse::Gathered(UsedIds::of(alloc, self.listed(alloc)?)?)),
         }
+    }
+
+    // The IDs of all records, in the order of lines.
+    fn listed(&self, alloc: Global) -> Result<Vec<u32>, AllocError>
+        ensures { IfOk result (λ ids.
+            ids.items ≡ map R.id_of (table_records R.format self.now)) }
+    {
+        listed_ids::<R>(alloc, self.table.seen()?.as_slice())
     }
 
     /// Whether a record has the ID. Where the IDs aren't known it takes a pass over the lines.
@@ -112,7 +107,7 @@ impl<'a, R: IdRecord + Drop> IdTable<'a, R> {
             has ≡ is_used (map R.id_of (table_records R.format self.now)) id) }
     {
         match &self.ids {
-            Some(_) => Ok(self.used(alloc)?.ids().holds(id)),
+            Some(ids) => Ok(ids.used.holds(id)),
             None => Ok(self.table.first_passing(alloc, &OfId { id })?.is_some()),
         }
     }
@@ -138,18 +133,36 @@ impl<'a, R: IdRecord + Drop> IdTable<'a, R> {
         }
     }
 
-    /// Carries the edits out, in their order. Where the IDs are known they follow an added record, and
-    /// one whose ID goes or changes where no other has its name or its ID; behind other edits they are
-    /// gathered anew. At `AllocError` some of the edits may be made, or the table is gone.
-    pub fn edit(&mut self, alloc: Global, edits: &[Edit<R, R::Change>]) -> Result<(), AllocError>
+    /// The name of the first record that the edits touch and whose name has several records.
+    pub(crate) fn first_multiple(
+        &mut self,
+        alloc: Global,
+        edits: &[Edit<R, R::Change>],
+    ) -> Result<Option<Bytes>, AllocError>
         requires { AreWritten R.format R.becomes edits.now }
-        ensures { OnOk result (self.new ≡ table_by R.format R.becomes edits.now self.old) }
+        ensures name { IfOk result (λ name. name ≡
+            multiple_by R.format R.becomes edits.now (table_records R.format self.old)) }
+        ensures same { self.new ≡ self.old }
     {
-        if self.ids.is_none() {
+        self.table.first_multiple(alloc, edits)
+    }
+
+    /// Carries the edits out, in their order, and tells whether the table may differ then. Where the IDs
+    /// are known they follow an added record, and one whose ID goes or changes where no other has its name
+    /// or its ID; behind other edits they are gathered anew. At `AllocError` some of the edits may be made,
+    /// or the table is gone.
+    pub(crate) fn edit(
+        &mut self,
+        alloc: Global,
+        edits: &[Edit<R, R::Change>],
+    ) -> Result<bool, AllocError>
+        requires { AreWritten R.format R.becomes edits.now }
+        ensures edited { OnOk result (self.new ≡ table_by R.format R.becomes edits.now self.old) }
+        ensures left { IfOk result (λ differ. differ ≡ false → self.new ≡ self.old) }
+    {
+        if self.ids.is_none() || !self.table.is_there() {
+            self.ids = None;
             return self.table.edit(alloc, edits);
-        }
-        if !self.table.is_there() {
-            return Ok(());
         }
         let mut left = edits;
         'edits: while !left.is_empty() {
@@ -157,7 +170,8 @@ impl<'a, R: IdRecord + Drop> IdTable<'a, R> {
             self.edit_one(alloc, one)?;
             left = later;
         }
-        self.gather(alloc)
+        self.gather(alloc)?;
+        Ok(!edits.is_empty())
     }
 
     // Carries out the only edit of a list. Where the IDs don't follow it, they are unknown behind it.
@@ -175,23 +189,14 @@ impl<'a, R: IdRecord + Drop> IdTable<'a, R> {
 
     // Gathers the IDs where they are unknown.
     fn gather(&mut self, alloc: Global) -> Result<(), AllocError>
-        ensures { OnOk result (self.new ≡ self.old) }
+        ensures { self.new ≡ self.old }
     {
-        if self.ids.is_some() {
-            return Ok(());
+        if self.ids.is_none() {
+            let ids = KeptIds::of(alloc, self.listed(alloc)?)?;
+            self.ids = Some(ids);
         }
-        let ids = ids_of::<R>(alloc, self.table.seen()?.file())?;
-        self.ids = Some(ids);
         Ok(())
     }
-}
-
-// The IDs of all records of the file.
-fn ids_of<R: IdRecord>(alloc: Global, file: &Option<Bytes>) -> Result<KeptIds, AllocError>
-    ensures { IfOk result (λ ids. AreIdsOf ids (table_counts R.format R.id_of file.now)) }
-{
-    let ids = listed_ids::<R>(alloc, file)?;
-    KeptIds::of(alloc, ids)
 }
 
 // The IDs after the edit, where those before tell them; none else.
@@ -268,27 +273,11 @@ fn renumber<R: IdRecord + Drop>(
         → FollowEdit R.format R.id_of ids.old ids.new
         (table_records R.format table.now) (model.Become f)) }
 {
-    let Some(lost) = id_named(alloc, table, renumbering.name)? else {
+    let Some(found) = table.find(alloc, renumbering.name)? else {
         return Ok(true);
     };
-    let are_several = table.has_several(alloc, renumbering.name)?;
-    if are_several {
+    if table.has_several(alloc, renumbering.name)? {
         return Ok(false);
     }
-    ids.swap(lost, renumbering.new_id)
-}
-
-// The ID of the first record of the name.
-fn id_named<R: IdRecord + Drop>(
-    alloc: Global,
-    table: &Table<R>,
-    name: &[u8],
-) -> Result<Option<u32>, AllocError>
-    ensures { IfOk result (λ id. id ≡
-        option_map R.id_of (find_named R.format name.now (table_records R.format table.now))) }
-{
-    match table.find(alloc, name)? {
-        Some(found) => Ok(Some(found.id())),
-        None => Ok(None),
-    }
+    ids.swap(found.id(), renumbering.new_id)
 }

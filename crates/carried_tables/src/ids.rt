@@ -1,15 +1,11 @@
 // The IDs that users and groups have by their records (passwd(5), group(5)).
-ghost use Rattle.std.specs.Prelude.{◌≡◌, true, map, IfOk, IfSome, IsSome};
-ghost use Rattle.account_model.specs.Tables.{table_records};
-ghost use Rattle.id_choice.specs.Used.{AreThoseOf};
+ghost use Rattle.std.specs.Prelude.{◌≡◌, true, IfSome, IsSome};
 ghost use Rattle.carried_tables.specs.KeptIds.{AreNumbered, KeepsIds, Renumbers, keeps_gid, keeps_uid};
 
 use acct_lines::{GroupRecord, PasswdRecord};
-use acct_tables::{NumberedRecord, listed_ids};
+use acct_tables::NumberedRecord;
 use acct_text::Bytes;
-use id_choice::UsedIds;
 use line_edits::{GroupAct, GroupChange, PasswdAct, PasswdChange};
-use std::alloc::{AllocError, Global};
 use table::{KeyedRecord, RecordTest};
 
 /// What a change does with the IDs of the records of one name.
@@ -144,16 +140,4 @@ fn keeps_gid(act: &GroupAct) -> bool
         GroupAct::SetGid(_) => false,
         _ => true,
     }
-}
-
-/// The IDs of all records of the file.
-pub(crate) fn used_ids<R: IdRecord>(
-    alloc: Global,
-    file: &Option<Bytes>,
-) -> Result<UsedIds, AllocError>
-    ensures { IfOk result (λ used.
-        AreThoseOf used (map R.id_of (table_records R.format file.now))) }
-{
-    let ids = listed_ids::<R>(alloc, file)?;
-    UsedIds::of(alloc, ids)
 }

@@ -75,3 +75,26 @@ impl KeptIds {
         }
     }
 }
+
+/// The IDs that users or groups have, for one question.
+#[derive(Drop)]
+pub enum IdsInUse<'a> {
+    /// They are gathered for it.
+    Gathered(UsedIds),
+    /// They are kept beside the table.
+    Kept(&'a UsedIds),
+}
+
+impl<'a> IdsInUse<'a> {
+    ghost use Rattle.carried_tables.specs.KeptIds.{ids_in};
+
+    /// The IDs.
+    pub fn ids(&self) -> &UsedIds
+        ensures { result.now ≡ ids_in self.now }
+    {
+        match self {
+            IdsInUse::Gathered(ids) => ids,
+            IdsInUse::Kept(ids) => ids,
+        }
+    }
+}

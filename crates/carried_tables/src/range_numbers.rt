@@ -8,10 +8,9 @@ ghost use Rattle.account_model.specs.Tables.{table_after};
 ghost use Rattle.account_model.specs.Written.{IsWritten};
 ghost use Rattle.line_edits.specs.SeenEdits.{seen_edit};
 ghost use Rattle.line_edits.specs.SubidChanges.{subid_becomes};
-ghost use Rattle.carried_tables.specs.RangeNumbers.{AreNumbersIn, FollowsGain, FollowsLoss, KeepsNumbers};
+ghost use Rattle.carried_tables.specs.RangeNumbers.{AreNumbersIn, FollowsGain};
 
 use acct_lines::SubidRecord;
-use acct_tables::text_of;
 use line_edits::{Edit, SubidChange};
 use std::alloc::{AllocError, Global};
 use subid_ranges::RangeNumbers;
@@ -37,16 +36,12 @@ pub(crate) fn numbers_after(
             numbers.add(alloc, range)?;
             Ok(Some(numbers))
         }
-        Edit::Become(change) if keeps_numbers(change) => Ok(known),
+        Edit::Become(change) => match change {
+            SubidChange::Rename(..) => Ok(known),
+            _ => Ok(None),
+        },
         _ => Ok(None),
     }
-}
-
-// Whether each range surely keeps its numbers by the change.
-fn keeps_numbers(change: &SubidChange) -> bool
-    ensures { result ≡ true → KeepsNumbers (subid_becomes change.now) }
-{
-    matches!(change, SubidChange::Rename(..))
 }
 
 /// The numbers without those of the ranges of the owner, where those before tell them.
@@ -65,22 +60,6 @@ pub(crate) fn numbers_without(
     };
     let ranges = table.all_named(alloc, owner)?;
     if !numbers.remove_each(&ranges)? {
-        return Ok(None);
-    }
-    Ok(Some(numbers))
-}
-
-/// The numbers without those of a range, where those before tell them.
-pub(crate) fn numbers_but(
-    known: Option<RangeNumbers>,
-    range: &SubidRecord,
-) -> Result<Option<RangeNumbers>, AllocError>
-    ensures { IfOk result (FollowsLoss range.now known) }
-{
-    let Some(mut numbers) = known else {
-        return Ok(None);
-    };
-    if !numbers.remove(range)? {
         return Ok(None);
     }
     Ok(Some(numbers))
@@ -113,6 +92,6 @@ fn known_or_gathered(
 {
     match known {
         Some(numbers) => Ok(numbers),
-        None => RangeNumbers::of(alloc, text_of(table.seen()?.file())),
+        None => RangeNumbers::of(alloc, table.seen()?.as_slice()),
     }
 }

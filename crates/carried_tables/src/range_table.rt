@@ -1,24 +1,23 @@
 // A table of subordinate IDs that is carried from command to command (useradd(8), userdel(8),
 // usermod(8), `-l`; subuid(5), subgid(5)).
-ghost use Rattle.std.specs.Prelude.{◌≡◌, false, ◌<◌, None, Some, is_some, IfOk, MatchOption, OnOk};
+ghost use Rattle.std.specs.Prelude.{◌≡◌, false, true, ◌<◌, is_some, IfOk, OnOk};
 ghost use Rattle.std.specs.List.{list_any};
 ghost use Rattle.account_model.specs.Records.{subid_format};
 ghost use Rattle.account_model.specs.Tables.{table_records};
 ghost use Rattle.account_model.specs.FreeRange.{free_range};
 ghost use Rattle.account_model.specs.SubidOwner.{is_owned};
-ghost use Rattle.table.specs.Standing.{IsTaken};
 ghost use Rattle.table.specs.TableEdits.{AreWritten, table_by};
 ghost use Rattle.line_edits.specs.SubidChanges.{subid_becomes};
+ghost use Rattle.carried_tables.specs.RangeNumbers.{is_numbered};
 
 use crate::range_edits::{cut_of, edited_ranges};
-use crate::touched_tables::take_edited;
 use acct_lines::SubidRecord;
-use acct_tables::text_of;
 use acct_text::Bytes;
 use itoa::Buffer;
 use line_edits::{Edit, SubidChange};
 use std::alloc::{AllocError, Global};
 use std::marker::Model;
+use std::mem::replace;
 use subid_ranges::{RangeNumbers, free_gap_in};
 use table::Table;
 
@@ -60,11 +59,11 @@ impl<'a> Model for RangeTable<'a> {
 
 impl<'a> RangeTable<'a> {
     /// The table of this file, which is kept elsewhere and absent where there is none.
-    pub(crate) fn lent(file: &'a Option<Bytes>) -> Self
+    pub(crate) fn lent(alloc: Global, file: &'a Option<Bytes>) -> Self
         ensures { result ≡ file.now }
     {
         RangeTable {
-            table: Table::lent(file),
+            table: Table::lent(alloc, file),
             numbers: None,
             wants_index: false,
         }
@@ -77,18 +76,12 @@ impl<'a> RangeTable<'a> {
         self.wants_index = true;
     }
 
-    /// Takes the bytes of the file out, and lets the rest go; none where it isn't edited, or is lent still
-    /// and the same as this one. They are made in a pass over the lines where the table has an index.
-    pub(crate) fn take_edited(
-        &mut self,
-        is_edited: bool,
-        first: &Option<Bytes>,
-    ) -> Result<Option<Bytes>, AllocError>
-        requires { is_edited ≡ false → self.old ≡ first.now }
-        ensures { IfOk result (IsTaken first.now self.old) }
+    /// Takes the table out, without the numbers.
+    pub(crate) fn take(&mut self, alloc: Global) -> Table<'a, SubidRecord>
+        ensures { result ≡ self.old }
     {
         self.numbers = None;
-        take_edited(&mut self.table, is_edited, first)
+        replace(&mut self.table, Table::owning(alloc, None))
     }
 
     /// Whether there is a file.
@@ -99,10 +92,13 @@ impl<'a> RangeTable<'a> {
     }
 
     /// A copy of the bytes; none where there is no file.
-    pub fn copy(&self) -> Result<Option<Bytes>, AllocError>
+    pub fn copy(&self, alloc: Global) -> Result<Option<Bytes>, AllocError>
         ensures { IfOk result (λ file. file ≡ self.now) }
     {
-        self.table.file()
+        if !self.table.is_there() {
+            return Ok(None);
+        }
+        Ok(Some(self.table.seen()?.into_bytes(alloc)?))
     }
 
     /// Whether the owner of a range is the name, or the decimal text of the UID. By an index it takes no
@@ -110,12 +106,18 @@ impl<'a> RangeTable<'a> {
     pub fn has_owner(&self, name: &[u8], uid: Option<u32>) -> bool
         ensures { result ≡ list_any (is_owned name.now uid) (table_records subid_format self.now) }
     {
+        self.table.has(name) || self.has_number(uid)
+    }
+
+    // Whether the owner of a range is the decimal text of the UID.
+    pub(crate) fn has_number(&self, uid: Option<u32>) -> bool
+        ensures { result ≡ list_any (is_numbered uid) (table_records subid_format self.now) }
+    {
         let Some(uid) = uid else {
-            return self.table.has(name);
+            return false;
         };
         let mut buffer = Buffer::new();
-        let number = buffer.format(uid).as_bytes();
-        self.table.has(name) || self.table.has(number)
+        self.table.has(buffer.format(uid).as_bytes())
     }
 
     /// The least start, from `min` on, of `count` IDs of which none passes `max` and none lies in a
@@ -134,29 +136,36 @@ impl<'a> RangeTable<'a> {
     {
         match &self.numbers {
             Some(numbers) => Ok(numbers.free_gap(min, max, count)),
-            None => free_gap_in(alloc, text_of(self.table.seen()?.file()), min, max, count),
+            None => free_gap_in(alloc, self.table.seen()?.as_slice(), min, max, count),
         }
     }
 
-    /// Carries the edits out, in their order, in a pass over the lines. Where an index is wanted they are
-    /// made where the ranges stand, unless many take IDs out of ranges: then a range that is added, an
-    /// owner that gets another name, one whose ranges go, and one whose only range loses an end take no
-    /// pass. At `AllocError` some of the edits may be made, or the table is gone.
-    pub fn edit(
+    /// Carries the edits out, in their order, in a pass over the lines, and tells whether the table may
+    /// differ then. Where an index is wanted they are made where the ranges stand, unless many take IDs out
+    /// of ranges: then a range that is added, an owner that gets another name, one whose ranges go, and one
+    /// whose only range loses an end take no pass. At `AllocError` some of the edits may be made, or the
+    /// table is gone.
+    pub(crate) fn edit(
         &mut self,
         alloc: Global,
         edits: &[Edit<SubidRecord, SubidChange>],
-    ) -> Result<(), AllocError>
+    ) -> Result<bool, AllocError>
         requires { AreWritten subid_format subid_becomes edits.now }
-        ensures { OnOk result (self.new ≡ table_by subid_format subid_becomes edits.now self.old) }
+        ensures edited { OnOk result
+            (self.new ≡ table_by subid_format subid_becomes edits.now self.old) }
+        ensures left { IfOk result (λ differ. differ ≡ false → self.new ≡ self.old) }
     {
         if edits.is_empty() {
-            return Ok(());
+            return Ok(false);
+        }
+        if !self.table.is_there() {
+            return Ok(false);
         }
         if !self.wants_index || are_many_with_cut(edits) {
             return self.remake(alloc, edits);
         }
-        self.edit_in_place(alloc, edits)
+        self.edit_in_place(alloc, edits)?;
+        Ok(true)
     }
 
     // Makes the edits in a pass over the lines. Where these stay, the table is left as it stands.
@@ -164,41 +173,24 @@ impl<'a> RangeTable<'a> {
         &mut self,
         alloc: Global,
         edits: &[Edit<SubidRecord, SubidChange>],
-    ) -> Result<(), AllocError>
-        requires { AreWritten subid_format subid_becomes edits.now }
-        ensures { OnOk result (self.new ≡ table_by subid_format subid_becomes edits.now self.old) }
+    ) -> Result<bool, AllocError>
+        requires there { is_some self.old ≡ true }
+        requires written { AreWritten subid_format subid_becomes edits.now }
+        ensures edited { OnOk result
+            (self.new ≡ table_by subid_format subid_becomes edits.now self.old) }
+        ensures left { IfOk result (λ differ. differ ≡ false → self.new ≡ self.old) }
     {
-        if let Some(text) = remade(alloc, &self.table, edits)? {
-            self.numbers = None;
-            self.table = Table::owning(Some(text));
+        let made = edited_ranges(alloc, self.table.seen()?.as_slice(), edits)?;
+        if made.as_slice() == self.table.seen()?.as_slice() {
+            return Ok(false);
         }
-        Ok(())
+        self.numbers = None;
+        self.table = Table::owning(alloc, Some(made));
+        Ok(true)
     }
 }
 
 // Whether the edits are many, and one of them takes IDs out of ranges.
 fn are_many_with_cut(edits: &[Edit<SubidRecord, SubidChange>]) -> bool {
     edits.len() >= MANY_WITH_CUT && edits.iter().any(|edit| cut_of(edit).is_some())
-}
-
-// The bytes of the file after the edits, where they are others.
-fn remade(
-    alloc: Global,
-    table: &Table<SubidRecord>,
-    edits: &[Edit<SubidRecord, SubidChange>],
-) -> Result<Option<Bytes>, AllocError>
-    requires { AreWritten subid_format subid_becomes edits.now }
-    ensures { IfOk result (λ made. MatchOption made
-        (table_by subid_format subid_becomes edits.now table.now ≡ table.now)
-        (λ text. table_by subid_format subid_becomes edits.now table.now ≡ Some text)) }
-{
-    let seen = table.seen()?;
-    let Some(text) = seen.file() else {
-        return Ok(None);
-    };
-    let made = edited_ranges(alloc, text.as_slice(), edits)?;
-    if made.as_slice() == text.as_slice() {
-        return Ok(None);
-    }
-    Ok(Some(made))
 }

@@ -1,11 +1,9 @@
-// Which of the six tables commands may have edited (passwd(5), shadow(5), group(5), gshadow(5), subuid(5),
+// Which of the six tables edits may have changed (passwd(5), shadow(5), group(5), gshadow(5), subuid(5),
 // subgid(5)).
-ghost use Rattle.std.specs.Prelude.{◌≡◌, false, IfOk};
-ghost use Rattle.table.specs.Standing.{IsTaken};
+ghost use Rattle.std.specs.Prelude.{◌≡◌};
+ghost use Rattle.carried_tables.specs.Changes.{is_touched};
 
-use acct_text::Bytes;
-use std::alloc::AllocError;
-use table::{KeyedRecord, Table};
+use acct_text::Tab;
 
 /// The tables that may differ from the first ones, each by its name; the others are as they were.
 #[derive(Clone, Copy)]
@@ -34,19 +32,18 @@ impl TouchedTables {
         subuid: true,
         subgid: true,
     };
-}
 
-/// Takes the bytes of a table out, as `Table::take_change`; none where it isn't edited.
-pub(crate) fn take_edited<R: KeyedRecord + Drop>(
-    table: &mut Table<'_, R>,
-    is_edited: bool,
-    first: &Option<Bytes>,
-) -> Result<Option<Bytes>, AllocError>
-    requires { is_edited ≡ false → table.old ≡ first.now }
-    ensures { IfOk result (IsTaken first.now table.old) }
-{
-    if !is_edited {
-        return Ok(None);
+    /// Whether the table may differ.
+    pub(crate) fn has(self, table: Tab) -> bool
+        ensures { result ≡ is_touched self table }
+    {
+        match table {
+            Tab::Passwd => self.passwd,
+            Tab::Shadow => self.shadow,
+            Tab::Group => self.group,
+            Tab::Gshadow => self.gshadow,
+            Tab::Subuid => self.subuid,
+            Tab::Subgid => self.subgid,
+        }
     }
-    table.take_change(first)
 }

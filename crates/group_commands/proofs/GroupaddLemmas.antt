@@ -14,8 +14,8 @@ use Rattle.account_model.specs.Text.{first_some}
 use Rattle.tool_answers.specs.declared.tool_fault.ToolFault.{ToolFault}
 use Rattle.tool_answers.specs.declared.tool_fault.ToolFault.TheVariants.{Refused, Memory}
 use Rattle.tool_answers.specs.Refusing.{IsFaultOf}
-use Rattle.table_edits.specs.declared.script.Script.{Script}
-use Rattle.table_edits.specs.SeenScript.{seen_script}
+use Rattle.carried_tables.specs.declared.script.Script.{Script}
+use Rattle.carried_tables.specs.Scripts.{seen_script}
 use Rattle.table_edits.specs.Acting.{ActsBy, IsScriptOf}
 use Rattle.table_edits.specs.Stopping.{StopsBy}
 use Rattle.table_edits.proofs.ActingLemmas.{first_some-before, first_some-behind}

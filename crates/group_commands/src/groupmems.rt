@@ -6,8 +6,7 @@ ghost use Rattle.account_model.specs.Groupmems.{asked_group, groupmems, groupmem
 ghost use Rattle.account_model.specs.Members.{each_members};
 ghost use Rattle.account_model.specs.Text.{first_some};
 ghost use Rattle.table_edits.specs.Acting.{ActsBy, IsOutputOf};
-ghost use Rattle.table_edits.specs.Additions.{HasAlso};
-ghost use Rattle.table_edits.specs.SeenScript.{seen_script};
+ghost use Rattle.carried_tables.specs.Scripts.{HasAlso, seen_script};
 ghost use Rattle.table_edits.specs.Stopping.{StopsBy};
 
 use crate::gpasswd::script::{add_member, remove_member};

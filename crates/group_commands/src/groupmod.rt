@@ -5,9 +5,8 @@ ghost use Rattle.account_model.specs.Hashes.{set_group_hash};
 ghost use Rattle.account_model.specs.Groupmod.{groupmod, groupmod_used_gid, groupmod_script, taken_gid, taken_group_name, gid_script, set_gid, rename_group};
 ghost use Rattle.account_model.specs.Refusals.{missing_group, refuse_value};
 ghost use Rattle.account_model.specs.Users.{group_named as group_of_name};
-ghost use Rattle.table_edits.specs.SeenScript.{seen_script};
+ghost use Rattle.carried_tables.specs.Scripts.{HasAlso, seen_script};
 ghost use Rattle.table_edits.specs.Acting.{ActsBy};
-ghost use Rattle.table_edits.specs.Additions.{HasAlso};
 ghost use Rattle.table_edits.specs.Stopping.{StopsBy};
 
 use account_model::{GroupRecord, Refusal};

@@ -14,9 +14,8 @@ use Rattle.tool_answers.specs.declared.decision.Output.{Output}
 use Rattle.tool_answers.specs.declared.tool_fault.ToolFault.{ToolFault}
 use Rattle.login_defs.specs.declared.defs.Defs.{Defs}
 use Rattle.login_defs.specs.Held.{HasSettings}
-use Rattle.table_edits.specs.Deciding.{IsCarriedOut}
-use Rattle.table_edits.specs.declared.script.Script.{Script}
-use Rattle.suite_tools.specs.Carrying.{AnswersUnder, IsOfAction}
+use Rattle.carried_tables.specs.declared.script.Script.{Script}
+use Rattle.suite_tools.specs.Carrying.{AnswersUnder, IsCarriedOut, IsOfAction}
 use Rattle.suite_tools.specs.declared.answer.Answered.{Answered}
 use Rattle.suite_tools.specs.declared.answer.Answered.TheVariants.{Edits}
 

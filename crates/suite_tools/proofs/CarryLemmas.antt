@@ -1,56 +1,32 @@
--- Claim: once an action of a tool is carried out on the files by itself, each table stands where it stood,
--- and the tables that differ with what is printed are what the tool decides (`carried-decides`); a table without edits is
--- as it was (`left-by`). Way: what is left and printed is what the tool made (`made-stands`, `made-left`).
-use Rattle.std.proofs.Common.{◌≡◌, ◌∙◌, ℕ, Bool, true, false, not, List, [], ◌∷◌, length, map, ap, arith, refl, subst, sym}
-use Rattle.std.specs.Prelude.{◌==◌, Option, Result, Ok, Err, is_some}
-use Rattle.std.proofs.lemmas.Bool.{ne_eqb}
+-- Claims: where the script of an action is carried out, the action comes to what its edits make
+-- (`outcome-made`), with what its tool prints (`written-made`); where it is refused, so is the action
+-- (`fault-carried`). And each table stands where it stood (`made-stands`).
+use Rattle.std.proofs.Common.{◌≡◌, ◌∙◌, true, ap, refl, subst, sym}
+use Rattle.std.specs.Prelude.{Option, Some, None, Ok, Err, is_some}
 use Rattle.acct_text.specs.declared.Tab.TheVariants.{Passwd, Shadow, Group, Gshadow, Subuid, Subgid}
 use Rattle.acct_text.specs.declared.files.Files.{Files}
-use Rattle.acct_text.specs.ChangedTables.{changed_tables}
 use Rattle.acct_text.specs.Files.{table_of}
 use Rattle.account_model.specs.declared.refusal.Refusal.{Refusal}
 use Rattle.account_model.specs.declared.tool.Tool.{Tool}
-use Rattle.account_model.specs.Action.{Action, Made, outcome_of}
-use Rattle.account_model.specs.Batch.{Written, written_by}
-use Rattle.account_model.specs.Edits.{Edit}
-use Rattle.account_model.specs.Format.{Format}
-use Rattle.account_model.specs.Tables.{Script, files_after, table_after}
-use Rattle.account_model.proofs.NoEdits.{table-stays}
-use Rattle.account_model.proofs.BatchLaws.{outcome-made}
+use Rattle.account_model.specs.Action.{Action, made_by, multiple_entries, outcome_of}
+use Rattle.account_model.specs.Batch.{written_by}
+use Rattle.account_model.specs.Tables as model
 use Rattle.account_model.proofs.DeedLaws.{files-stand}
-use Rattle.tool_answers.specs.Decisions.{Decides, decision_by, decision_of, written_decision}
 use Rattle.tool_answers.specs.declared.decision.Output.{Output}
-use Rattle.table_edits.specs.Deciding.{IsCarriedOut, written_with}
+use Rattle.tool_answers.specs.declared.tool_fault.ToolFault.{ToolFault}
+use Rattle.tool_answers.specs.declared.tool_fault.ToolFault.TheVariants.{Refused, Memory}
 use Rattle.carried_tables.specs.Changes.{UneditedStay, StandWhere}
-use Rattle.carried_tables.specs.declared.touched_tables.TouchedTables.{TouchedTables}
+use Rattle.carried_tables.specs.Scripts.{CarriesOut, seen_script}
+use Rattle.carried_tables.specs.declared.script.Script.{Script}
+use Rattle.suite_tools.specs.Carrying.{IsCarriedOut, IsOfAction, written_with}
 
--- what a tool made has each table where it stood
+-- what a script makes has each table where it stood
 pub made-stands :
-    (action : Action) (files : Files) (made : Made)
-    → outcome_of action files ≡ Ok made
-    → StandWhere files made.files
-made-stands action files made is table =
-    subst (λ (one : Made). is_some (table_of one.files table) ≡ is_some (table_of files table))
-    (outcome-made action files made is).makes (files-stand action.script files table)
-
--- and its tables are those after the edits
-made-left :
-    (action : Action) (files : Files) (made : Made)
-    → outcome_of action files ≡ Ok made
-    → made.files ≡ files_after action.script files
-made-left action files made is =
-    sym (ap (λ (one : Made). one.files) (outcome-made action files made is).makes)
-
--- so a table without edits is as it was
-pub left-by :
-    (script edits : Script) (touched : TouchedTables) (first last : Files)
-    → ((files : Files) → UneditedStay touched files (files_after script files))
-    → script ≡ edits
-    → last ≡ files_after edits first
-    → UneditedStay touched first last
-left-by script edits touched first last left same is =
-    subst (λ (files : Files). UneditedStay touched first files)
-    (ap (λ (one : Script). files_after one first) same ∙ sym is) (left first)
+    (script : model.Script) (old new : Files)
+    → new ≡ model.files_after script old
+    → StandWhere old new
+made-stands script old new made table =
+    ap (λ (files : Files). is_some (table_of files table)) made ∙ files-stand script old table
 
 -- where all may be edited, nothing is said of any
 pub all-touched :
@@ -70,47 +46,40 @@ all-touched first last Gshadow none = absurd cc
 all-touched first last Subuid none = absurd cc
 all-touched first last Subgid none = absurd cc
 
--- by whether there are edits
-pub left-table :
-    {R E : Type 0} (format : Format R) (seen : E → Edit R) (edits : List E) (touched : Bool)
-    (bytes : Option (List ℕ))
-    → touched ≡ not (length edits == 0)
-    → touched ≡ false
-    → table_after format (map seen edits) bytes ≡ bytes
-left-table format seen [] touched bytes is none = table-stays format bytes
-left-table format seen (edit ∷ edits) touched bytes is none =
-    let some = ne_eqb (length (edit ∷ edits)) 0 (λ same. omega (arith, same)) in
-    let both : true ≡ false = ap not (sym some) ∙ sym is ∙ none in absurd cc
+module _ (tool : Tool) (action : Action) (script : Script) (output : Output) (old : Files)
+    (is : IsOfAction tool script output action) where
+  -- by whether a record of several is touched
+  told :
+      (multiple : Option Refusal)
+      → multiple_entries (seen_script script) old ≡ multiple
+      → multiple_entries action.script old ≡ multiple
+  told multiple = subst (λ (one : model.Script). multiple_entries one old ≡ multiple) is.0.edits
 
-module _ (tool : Tool) (action : Action) (first old last : Files) (output : Output)
-    (are : old ≡ first)
-    (carried : IsCarriedOut tool (outcome_of action old) old last (Ok output)) where
-  -- what is left has each table where the files have it, and is what the edits leave; and the tables that differ, with
-  -- what is printed, are the tool's decision
-  pub carried-decides :
-      StandWhere first last
-      × (last ≡ files_after action.script first)
-      × Decides tool first (outcome_of action first)
-      (decision_by (changed_tables (table_of first) (table_of last)) output)
-  carried-decides = by (outcome_of action first) refl
-      (subst (λ (files : Files). IsCarriedOut tool (outcome_of action files) files
-      last (Ok output)) are
-      carried)
-    where
-      by :
-          (made : Result Made Refusal)
-          → outcome_of action first ≡ made
-          → IsCarriedOut tool made first last (Ok output)
-          → StandWhere first last
-          × (last ≡ files_after action.script first)
-          × (decision_by (changed_tables (table_of first) (table_of last)) output
-          ≡ decision_of tool first made)
-      by (Err refusal) is left = absurd (cc left)
-      by (Ok made) is left =
-          let same : written_by tool made ≡ written_with last output = cc in (
-            subst (λ (one : Written). StandWhere first one.files) same
-                (made-stands action first made is),
-            subst (λ (one : Written). one.files ≡ files_after action.script first) same
-                (made-left action first made is),
-            ap (written_decision first) (sym same),
-          )
+  -- the action comes to what its edits make
+  pub outcome-made :
+      multiple_entries (seen_script script) old ≡ None
+      → outcome_of action old ≡ Ok (made_by action old)
+  outcome-made none =
+      let single = told None none in rw (outcome_of, is.0.unrefused, single) refl
+
+  -- which is written with what is printed
+  pub written-made :
+      (new : Files)
+      → new ≡ model.files_after (seen_script script) old
+      → written_by tool (made_by action old) ≡ written_with new output
+  written-made new made = λ i. record {
+    files = sym (made ∙ ap (λ (one : model.Script). model.files_after one old) is.0.edits) i;
+    status = sym is.1.status i;
+    output = sym is.1.output i;
+    error = sym is.1.notices i;
+  }
+
+  -- a fault is the action's
+  pub fault-carried :
+      (new : Files) (fault : ToolFault)
+      → CarriesOut (seen_script script) old new (Err fault)
+      → IsCarriedOut tool (outcome_of action old) old new (Err fault)
+  fault-carried new (Refused refusal) refused =
+      let several = told (Some refusal) refused.0 in
+      (rw (outcome_of, is.0.unrefused, several) refl, refused.1)
+  fault-carried new Memory refused = tt

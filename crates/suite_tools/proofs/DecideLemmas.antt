@@ -18,7 +18,7 @@ use Rattle.tool_answers.specs.declared.decision.Decision.TheVariants.{Refuse}
 use Rattle.tool_answers.specs.declared.decision.Output.{Output}
 use Rattle.tool_answers.specs.declared.tool_fault.ToolFault.{ToolFault}
 use Rattle.tool_answers.specs.declared.tool_fault.ToolFault.TheVariants.{Refused}
-use Rattle.table_edits.specs.declared.script.Script.{Script}
+use Rattle.carried_tables.specs.declared.script.Script.{Script}
 use Rattle.suite_tools.specs.Carrying.{AnswersUnder, EditsDecide}
 use Rattle.suite_tools.specs.Deciding.{CommandDecides, LinesDecideUnder}
 use Rattle.suite_tools.specs.declared.answer.Answered.{Answered}
@@ -42,7 +42,8 @@ module _ (defs : Defs) (day : ℕ) (request : Request) (input : List ℕ) (files
       → AnswersUnder defs day was read files tables answered
       → AnswersUnder defs day request input files files other
   on-files was read tables answered other is_request is_input are is answers =
-      subst (λ (one : Result Answered ToolFault). AnswersUnder defs day request input files files one)
+      subst (λ (one : Result Answered ToolFault).
+      AnswersUnder defs day request input files files one)
       is
       (subst (λ (one : Request). AnswersUnder defs day one input files files answered) is_request
       (subst (λ (one : List ℕ). AnswersUnder defs day was one files files answered) is_input

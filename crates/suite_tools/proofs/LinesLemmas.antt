@@ -14,7 +14,7 @@ use Rattle.account_model.specs.Request.{Request}
 use Rattle.account_model.specs.Batch.{LineRefusal, Written, batch, before_others, line_outcome, outcome_ensured, with_rest, written_by}
 use Rattle.account_model.specs.Messages.{messages}
 use Rattle.tool_answers.specs.declared.decision.Output.{Output}
-use Rattle.table_edits.specs.Deciding.{IsCarriedOut, written_with}
+use Rattle.suite_tools.specs.Carrying.{IsCarriedOut}
 use Rattle.suite_tools.specs.Writing.{IsWrittenBehind, with_made, with_output}
 
 -- ---- One line
@@ -27,7 +27,8 @@ pub carried-behind :
     → IsCarriedOut request.tool
     (outcome_of (action_of request [] day old.files settings) old.files) old.files files (Ok output)
     → new ≡ with_output output (record old { files = files })
-    → IsWrittenBehind request.tool old new None (line_outcome ensuring request day settings old.files)
+    → IsWrittenBehind request.tool old new None
+    (line_outcome ensuring request day settings old.files)
 carried-behind ensuring request day settings files output old new carried is =
     by (outcome_of (action_of request [] day old.files settings) old.files) carried
   where
@@ -36,17 +37,16 @@ carried-behind ensuring request day settings files output old new carried is =
         → IsCarriedOut request.tool outcome old.files files (Ok output)
         → IsWrittenBehind request.tool old new None
         (outcome_ensured ensuring request.tool old.files outcome)
-    by (Err refusal) left = absurd (cc left)
-    by (Ok made) left =
-        let same : written_with files output ≡ written_by request.tool made = cc in (
-          refl,
-          is
-              ∙ ap (λ (one : Written). record old {
-                files = one.files;
-                output = old.output ++ one.output;
-                error = old.error ++ one.error;
-              }) same,
-        )
+    by (Err refusal) left = absurd left
+    by (Ok made) left = (
+      refl,
+      is
+          ∙ ap (λ (one : Written). record old {
+            files = one.files;
+            output = old.output ++ one.output;
+            error = old.error ++ one.error;
+          }) (sym left),
+    )
 
 -- ---- The lines of a batch
 

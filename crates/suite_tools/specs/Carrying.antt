@@ -1,8 +1,10 @@
 -- What a tool has to answer, and a command to do with the tables ("EXIT VALUES" of each page; the actions
 -- are those of account_model/specs/Change).
-use Rattle.std.specs.Prelude.{◌≡◌, ⊤, ℕ, false, List, Some, Result, Ok, Err}
+use Rattle.std.specs.Prelude.{◌≡◌, ⊤, ℕ, false, List, Some, Result, Ok, Err, IsOkAnd}
 use Rattle.acct_text.specs.declared.files.Files.{Files}
-use Rattle.account_model.specs.Action.{Action, outcome_of}
+use Rattle.account_model.specs.declared.refusal.Refusal.{Refusal}
+use Rattle.account_model.specs.Action.{Action, Made, outcome_of}
+use Rattle.account_model.specs.Batch.{Written, written_by}
 use Rattle.account_model.specs.Change.{action_of}
 use Rattle.account_model.specs.declared.tool.Tool.{Tool}
 use Rattle.account_model.specs.declared.tool.Tool.TheVariants.{Batch}
@@ -18,8 +20,7 @@ use Rattle.tool_answers.specs.declared.tool_fault.ToolFault.TheVariants.{Refused
 use Rattle.login_defs.specs.declared.defs.Defs.{Defs}
 use Rattle.login_defs.specs.Held.{HasSettings}
 use Rattle.table_edits.specs.Acting.{IsOutputOf, IsScriptOf}
-use Rattle.table_edits.specs.Deciding.{IsCarriedOut}
-use Rattle.table_edits.specs.declared.script.Script.{Script}
+use Rattle.carried_tables.specs.declared.script.Script.{Script}
 use Rattle.suite_tools.specs.declared.answer.Answered.{Answered}
 use Rattle.suite_tools.specs.declared.answer.Answered.TheVariants.{Edits, Decides as DecidesAlone, Lines}
 
@@ -58,6 +59,25 @@ abbrev pub EditsDecide : Tool → Files → Script → Output → Decision → T
 EditsDecide tool files script output decision = (action : Action)
     → IsOfAction tool script output action
     → Decides tool files (outcome_of action files) decision
+
+-- these files are left, and this is printed
+abbrev pub written_with : Files → Output → Written
+written_with files output = record {
+  files = files;
+  status = output.status;
+  output = output.out;
+  error = output.err;
+}
+
+-- by the outcome of its tool a command is carried out, or refuses and leaves the files as they were;
+-- want of memory may come anywhere
+abbrev pub IsCarriedOut :
+    Tool → Result Made Refusal → Files → Files → Result Output ToolFault → Type 0
+IsCarriedOut tool outcome old new (Ok output) =
+    IsOkAnd outcome (λ made. written_by tool made ≡ written_with new output)
+IsCarriedOut tool outcome old new (Err (Refused refusal)) =
+    (outcome ≡ Err refusal) × (new ≡ old)
+IsCarriedOut tool outcome old new (Err Memory) = ⊤
 
 -- the tool carries out the request on these files, whichever settings the values are those of
 abbrev pub CarriesUnder :

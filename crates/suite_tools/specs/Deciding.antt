@@ -42,11 +42,6 @@ abbrev pub LinesDecideUnder : Bool → Defs → ℕ → List ℕ → Files → D
 LinesDecideUnder ensuring defs day input files =
     DecidesUnder defs (lines_decision ensuring input day files)
 
--- the tool of a command decides so
-abbrev pub ToolDecides : Defs → ℕ → Request → List ℕ → Files → Decision → Type 0
-ToolDecides defs day request input files =
-    DecidesUnder defs (tool_decision request input day files)
-
 -- the command decides so
 abbrev pub CommandDecides : Defs → ℕ → Request → List ℕ → Files → Decision → Type 0
 CommandDecides defs day request input files =

@@ -36,7 +36,7 @@ pub(crate) fn carry_out(
     match answer_of(alloc, asked, b"", files, &Tables::of(tables), defs, day)? {
         Answered::Edits(script, output) => {
             tools_are_written();
-            table_edits::carry_out(alloc, tables, &script)?;
+            tables.carry_out(alloc, &script)?;
             Ok(output)
         }
         // No line names a batch, or a tool that looks through whole tables.

@@ -24,7 +24,7 @@ pub(crate) fn tables_for<'a>(
 ) -> Result<CarriedTables<'a>, AllocError>
     ensures { IfOk result (λ tables. tables ≡ files.now) }
 {
-    let mut tables = CarriedTables::of(files);
+    let mut tables = CarriedTables::of(alloc, files);
     let many_lines = has_many(input, b'\n', MANY_NAMES);
     let of_groups = asked.tool() == Tool::Chgpasswd;
     if lists_many(asked, b'A') || lists_many(asked, b'M') || (many_lines && !of_groups) {

@@ -107,14 +107,10 @@ impl<'a> Written<'a> {
         requires { StandWhere first.now self.files }
         ensures { IfOk result (λ decision. decision ≡ written_decision first.now self.entry) }
     {
-        let Written {
-            mut tables,
-            out,
-            err,
-        } = self;
+        let Written { tables, out, err } = self;
         let status = CARRIED_OUT;
         let output = Output { status, out, err };
-        decide_change(alloc, first, &mut tables, TouchedTables::ALL, output)
+        decide_change(alloc, first, tables, TouchedTables::ALL, output)
     }
 }
 

@@ -7,7 +7,7 @@ use Rattle.account_model.specs.Action.{Action}
 use Rattle.account_model.specs.Text.{first_some}
 use Rattle.tool_answers.specs.declared.tool_fault.ToolFault.{ToolFault}
 use Rattle.table_edits.specs.Acting.{ActsBy}
-use Rattle.table_edits.specs.declared.script.Script.{Script}
+use Rattle.carried_tables.specs.declared.script.Script.{Script}
 
 -- what is first among some is first with more behind them
 pub first_some-before :

@@ -7,8 +7,8 @@ use Rattle.account_model.specs.declared.tool.Tool.{Tool}
 use Rattle.tool_answers.specs.declared.decision.Output.{Output}
 use Rattle.tool_answers.specs.declared.tool_fault.ToolFault.{ToolFault}
 use Rattle.tool_answers.specs.declared.tool_fault.ToolFault.TheVariants.{Refused, Memory}
-use Rattle.table_edits.specs.declared.script.Script.{Script}
-use Rattle.table_edits.specs.SeenScript.{seen_script}
+use Rattle.carried_tables.specs.declared.script.Script.{Script}
+use Rattle.carried_tables.specs.Scripts.{seen_script}
 
 -- none of the action's refusals is there, and the script has its edits
 pub record IsScriptOf (action : Action) (script : Script) : Type 0 where

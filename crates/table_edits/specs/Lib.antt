@@ -1,5 +1,2 @@
-pub mod SeenScript
 pub mod Acting
-pub mod Additions
-pub mod Deciding
 pub mod Stopping

@@ -1,55 +1,59 @@
-// The groups that words name (useradd(8), usermod(8), `-g` and `-G`).
-ghost use Rattle.std.specs.Prelude.{◌≡◌, ◌++◌, [], is_some, map, option_map, IfOk, OnOk};
+// The groups that words name, and refusals of words that name none (useradd(8), usermod(8), `-g` and
+// `-G`).
+ghost use Rattle.std.specs.Prelude.{◌≡◌, ◌++◌, [], find, map, option_map, IfOk, OnOk};
 ghost use Rattle.std.specs.List.{cons_option};
-ghost use Rattle.account_model.specs.GivenGroups.{find_group as named_by_word, given_group, given_groups, given_group_words as words_of_groups};
+ghost use Rattle.std.specs.Option.{option_copied};
+ghost use Rattle.account_model.specs.GivenGroups.{find_group as named_by_word, given_group, given_groups, given_group_words as words_of_groups, is_unknown_group, unknown_group, unknown_groups};
 ghost use Rattle.account_model.specs.Tables.{group_records};
-ghost use Rattle.account_model.specs.Users.{group_named as group_of_name};
+ghost use Rattle.table_edits.specs.Stopping.{StopsBy};
 
 use crate::Tables;
+use crate::lookups::no_group;
 use account_model::GroupRecord;
 use acct_lines::is_digits;
 use acct_text::{Bytes, Names};
-use command_values::{Asked, list_value, read_id};
+use command_values::{Asked, ToolFault, list_value, read_id};
 use std::alloc::{AllocError, Global};
 
-/// Whether a word names a group: by its GID where the word is all digits, and else by its name.
-pub(crate) fn names_group(alloc: Global, tables: &Tables, word: &[u8]) -> Result<bool, AllocError>
-    ensures { IfOk result (λ names.
-        names ≡ is_some (named_by_word word.now (group_records tables.now))) }
+/// Refuses a word of `-g` that names no group: `NoGroup`.
+pub fn check_given_group(alloc: Global, asked: &Asked, tables: &Tables) -> Result<(), ToolFault>
+    ensures { StopsBy (unknown_group asked.now tables.now) result }
 {
-    if !is_digits(word) {
-        return Ok(tables.has_group(word));
+    let Some(word) = asked.value(b'g') else {
+        return Ok(());
+    };
+    if group_name(alloc, tables, word)?.is_some() {
+        return Ok(());
     }
-    match read_id(word) {
-        Some(gid) => tables.is_gid_used(alloc, gid),
-        None => Ok(false),
+    Err(no_group(alloc, word)?)
+}
+
+/// Refuses the first word of `-G` that names no group: `NoGroup`.
+pub fn check_given_groups(alloc: Global, asked: &Asked, tables: &Tables) -> Result<(), ToolFault>
+    ensures { StopsBy (unknown_groups asked.now tables.now) result }
+{
+    let words = group_words(alloc, asked)?;
+    match first_unknown(alloc, tables, words.as_slice())? {
+        Some(word) => Err(no_group(alloc, word.as_slice())?),
+        None => Ok(()),
     }
 }
 
-// The name of the first group that a word names; none where it names none.
-fn group_name(alloc: Global, tables: &Tables, word: &[u8]) -> Result<Option<Bytes>, AllocError>
-    ensures { IfOk result (λ name. name ≡ option_map (λ group. group.name)
-        (named_by_word word.now (group_records tables.now))) }
+// The first of the words that names no group.
+fn first_unknown<'a>(
+    alloc: Global,
+    tables: &Tables,
+    words: &'a [Bytes],
+) -> Result<Option<&'a Bytes>, AllocError>
+    ensures { IfOk result (λ found.
+        option_copied found ≡ find (is_unknown_group tables.now) words.now) }
 {
-    if !is_digits(word) {
-        return given_name(alloc, tables, word);
+    for word in words {
+        if group_name(alloc, tables, word.as_slice())?.is_none() {
+            return Ok(Some(word));
+        }
     }
-    match read_id(word) {
-        Some(gid) => Ok(tables.group_of_gid(alloc, gid)?.map(|group| group.name)),
-        None => Ok(None),
-    }
-}
-
-// The name, where a group has it.
-fn given_name(alloc: Global, tables: &Tables, name: &[u8]) -> Result<Option<Bytes>, AllocError>
-    ensures { IfOk result (λ given.
-        given ≡ option_map (λ group. group.name) (group_of_name name.now tables.now)) }
-{
-    if tables.has_group(name) {
-        Ok(Some(Bytes::of(alloc, name)?))
-    } else {
-        Ok(None)
-    }
+    Ok(None)
 }
 
 /// The group of `-g`; none where the option isn't given or names none.
@@ -66,7 +70,7 @@ pub fn given_group(
     }
 }
 
-// The first group that a word names, as `group_name` finds it.
+// The first group that a word names: by its GID where the word is all digits, and else by its name.
 fn find_group(
     alloc: Global,
     tables: &Tables,
@@ -84,8 +88,19 @@ fn find_group(
     }
 }
 
-/// The words of `-G`, each once.
-pub(crate) fn group_words(alloc: Global, asked: &Asked) -> Result<Names, AllocError>
+// Its name. Where the word is that, the record isn't read.
+fn group_name(alloc: Global, tables: &Tables, word: &[u8]) -> Result<Option<Bytes>, AllocError>
+    ensures { IfOk result (λ name. name ≡ option_map (λ group. group.name)
+        (named_by_word word.now (group_records tables.now))) }
+{
+    if !is_digits(word) && tables.has_group(word) {
+        return Ok(Some(Bytes::of(alloc, word)?));
+    }
+    Ok(find_group(alloc, tables, word)?.map(|group| group.name))
+}
+
+// The words of `-G`, each once.
+fn group_words(alloc: Global, asked: &Asked) -> Result<Names, AllocError>
     ensures { IfOk result (λ words. words ≡ words_of_groups asked.now) }
 {
     list_value(alloc, asked.value_or(b'G', b""))

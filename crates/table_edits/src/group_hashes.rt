@@ -2,7 +2,7 @@
 // gshadow(5)).
 ghost use Rattle.std.specs.Prelude.{OnOk};
 ghost use Rattle.account_model.specs.Hashes.{set_group_hash as group_hash, demand_gshadow as gshadow_on_demand, make_gshadow as gshadow_line};
-ghost use Rattle.table_edits.specs.Additions.{HasAlso};
+ghost use Rattle.carried_tables.specs.Scripts.{HasAlso};
 
 use crate::{Script, Tables};
 use acct_lines::{GroupRecord, GshadowRecord};

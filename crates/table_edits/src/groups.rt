@@ -3,6 +3,7 @@ ghost use Rattle.std.specs.Prelude.{◌≡◌, IfOk};
 ghost use Rattle.account_model.specs.GivenGroups.{find_gid as first_of_gid};
 ghost use Rattle.account_model.specs.Ids.{is_used, used_gids as gids_of};
 ghost use Rattle.account_model.specs.Tables.{group_records};
+ghost use Rattle.carried_tables.specs.KeptIds.{ids_in};
 ghost use Rattle.id_choice.specs.Used.{AreThoseOf};
 
 use crate::Tables;
@@ -35,7 +36,7 @@ impl<'a> Tables<'a> {
 
     /// The GIDs of all groups.
     pub fn used_gids(&self, alloc: Global) -> Result<IdsInUse<'a>, AllocError>
-        ensures { IfOk result (λ used. AreThoseOf used (gids_of self.now)) }
+        ensures { IfOk result (λ used. AreThoseOf (ids_in used) (gids_of self.now)) }
     {
         self.carried.group().used(alloc)
     }

@@ -1,7 +1,7 @@
 // A group that a command makes (groupadd(8); useradd(8), `-U`).
 ghost use Rattle.std.specs.Prelude.{◌≡◌, IfOk, OnOk};
 ghost use Rattle.account_model.specs.NewAccount.{add_group as addition_of_group, new_group, new_gshadow};
-ghost use Rattle.table_edits.specs.Additions.{HasAlso};
+ghost use Rattle.carried_tables.specs.Scripts.{HasAlso};
 
 use crate::{Script, Tables};
 use acct_lines::{GroupRecord, GshadowRecord};

@@ -3,7 +3,7 @@
 ghost use Rattle.std.specs.Prelude.{◌≡◌, OnOk};
 ghost use Rattle.account_model.specs.Hashes.{demand_shadow as shadow_on_demand, each_user_hash, make_shadow as shadow_line};
 ghost use Rattle.account_model.specs.Records.{hash_alone as record_of_hash};
-ghost use Rattle.table_edits.specs.Additions.{HasAlso};
+ghost use Rattle.carried_tables.specs.Scripts.{HasAlso};
 ghost use Rattle.line_edits.specs.HashChanges.{hash_by};
 
 use crate::{Script, Tables};

@@ -6,7 +6,7 @@ ghost use Rattle.account_model.specs.Records.{passwd_format};
 ghost use Rattle.account_model.specs.Refusals.{missing_user, missing_users};
 ghost use Rattle.account_model.specs.Tables.{passwd_records};
 ghost use Rattle.account_model.specs.Users.{find_user, has_user, other_users};
-ghost use Rattle.carried_tables.specs.KeptIds.{table_counts};
+ghost use Rattle.carried_tables.specs.KeptIds.{ids_in, table_counts};
 ghost use Rattle.id_choice.specs.Used.{AreThoseOf};
 ghost use Rattle.table_edits.specs.Stopping.{StopsBy};
 
@@ -86,7 +86,7 @@ impl<'a> Tables<'a> {
 
     /// The UIDs of all users.
     pub fn used_uids(&self, alloc: Global) -> Result<IdsInUse<'a>, AllocError>
-        ensures { IfOk result (λ used. AreThoseOf used (uids_of self.now)) }
+        ensures { IfOk result (λ used. AreThoseOf (ids_in used) (uids_of self.now)) }
     {
         self.carried.passwd().used(alloc)
     }

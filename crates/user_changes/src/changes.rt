@@ -9,7 +9,7 @@ ghost use Rattle.account_model.specs.Request.{operand};
 ghost use Rattle.account_model.specs.Written.{IsNameField};
 ghost use Rattle.tool_answers.specs.Refusing.{RefusesBy};
 ghost use Rattle.table_edits.specs.Acting.{ActsBy};
-ghost use Rattle.table_edits.specs.SeenScript.{seen_script};
+ghost use Rattle.carried_tables.specs.Scripts.{seen_script};
 
 use crate::conflicts::check_conflicts;
 use crate::fields::{write_passwd, write_shadow};

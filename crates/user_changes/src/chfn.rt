@@ -4,7 +4,7 @@ ghost use Rattle.account_model.specs.Chfn.{chfn, chfn_refusals, chfn_script};
 ghost use Rattle.account_model.specs.Text.{first_some};
 ghost use Rattle.account_model.specs.Users.{comment_of};
 ghost use Rattle.table_edits.specs.Acting.{ActsBy};
-ghost use Rattle.table_edits.specs.SeenScript.{seen_script};
+ghost use Rattle.carried_tables.specs.Scripts.{seen_script};
 ghost use Rattle.table_edits.specs.Stopping.{StopsBy};
 
 use crate::comment::new_comment;

@@ -9,8 +9,7 @@ ghost use Rattle.account_model.specs.Tables.{no_edits};
 ghost use Rattle.account_model.specs.Usermod.{changed_shadow, changed_user, sets_passwd, sets_shadow};
 ghost use Rattle.account_model.specs.Values.{days_value, expiration_value};
 ghost use Rattle.line_edits.specs.ShadowChanges.{given_days};
-ghost use Rattle.table_edits.specs.Additions.{HasAlso};
-ghost use Rattle.table_edits.specs.SeenScript.{seen_script};
+ghost use Rattle.carried_tables.specs.Scripts.{HasAlso, seen_script};
 ghost use Rattle.user_changes.specs.Fields.{day_of_change, user_fields, SetsShadow};
 
 use crate::changes::new_name;

@@ -5,7 +5,7 @@ ghost use Rattle.account_model.specs.Request.{operand};
 ghost use Rattle.account_model.specs.Tables.{no_edits};
 ghost use Rattle.account_model.specs.UsermodHash.{hash_after, hash_script, relocked_hash, sets_aging, sets_hash};
 ghost use Rattle.account_model.specs.Users.{hash_of, passwd_field};
-ghost use Rattle.table_edits.specs.Additions.{HasAlso};
+ghost use Rattle.carried_tables.specs.Scripts.{HasAlso};
 ghost use Rattle.line_edits.specs.HashChanges.{hash_by};
 
 use acct_text::Bytes;

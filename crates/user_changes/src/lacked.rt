@@ -53,12 +53,16 @@ pub(crate) fn range_table(sort: IdSort) -> Tab
 }
 
 /// A copy of the bytes of that table; none where there is no file.
-pub(crate) fn range_file(tables: &Tables, sort: IdSort) -> Result<Option<Bytes>, AllocError>
+pub(crate) fn range_file(
+    alloc: Global,
+    tables: &Tables,
+    sort: IdSort,
+) -> Result<Option<Bytes>, AllocError>
     ensures { IfOk result (λ file. file ≡ table_of tables.now (range_table sort)) }
 {
     match sort {
-        IdSort::Uid => tables.subuid_ranges().copy(),
-        IdSort::Gid => tables.subgid_ranges().copy(),
+        IdSort::Uid => tables.subuid_ranges().copy(alloc),
+        IdSort::Gid => tables.subgid_ranges().copy(alloc),
     }
 }
 
@@ -79,7 +83,7 @@ fn leave_held(
     if ranges.added.is_empty() {
         return Ok(());
     }
-    let file = range_file(tables, sort)?;
+    let file = range_file(alloc, tables, sort)?;
     ranges.added = lacked_ranges(alloc, ranges, text_in(&file))?;
     Ok(())
 }

@@ -57,7 +57,7 @@ fn check_added(
     if ranges.added.is_empty() {
         return Ok(());
     }
-    match range_file(tables, sort)? {
+    match range_file(alloc, tables, sort)? {
         Some(text) => check_lines(alloc, ranges, range_table(sort), text.as_slice()),
         None => Ok(()),
     }

@@ -3,7 +3,7 @@ ghost use Rattle.std.specs.Prelude.{◌≡◌, [], ◌∷◌, IfOk, OnOk};
 ghost use Rattle.account_model.specs.Edits.{each, edit_if};
 ghost use Rattle.account_model.specs.Tables.{no_edits};
 ghost use Rattle.account_model.specs.Usermod.{changed_group, changed_gshadow, sets_lists};
-ghost use Rattle.table_edits.specs.Additions.{HasAlso};
+ghost use Rattle.carried_tables.specs.Scripts.{HasAlso};
 ghost use Rattle.user_changes.specs.Memberships.{group_edit, gshadow_edit, membership, user_groups};
 
 use crate::changes::new_name;

@@ -9,7 +9,7 @@ ghost use Rattle.account_model.specs.UsermodRanges.{add_range, change_asked, cut
 ghost use Rattle.account_model.specs.Users.{uid_of};
 ghost use Rattle.account_model.specs.Written.{IsNameField};
 ghost use Rattle.command_values.specs.Ranges.{ids_named};
-ghost use Rattle.table_edits.specs.Additions.{HasAlso};
+ghost use Rattle.carried_tables.specs.Scripts.{HasAlso};
 ghost use Rattle.line_edits.specs.SeenEdits.{seen_edits};
 ghost use Rattle.line_edits.specs.SubidChanges.{subid_becomes};
 ghost use Rattle.user_changes.specs.Ranges.{id_change, owner_by, owner_in, ranges_asked};

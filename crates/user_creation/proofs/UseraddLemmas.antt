@@ -24,9 +24,9 @@ use Rattle.tool_answers.specs.declared.tool_fault.ToolFault.{ToolFault}
 use Rattle.tool_answers.specs.declared.tool_fault.ToolFault.TheVariants.{Refused, Memory}
 use Rattle.table_edits.proofs.ActingLemmas.{first_some-before, first_some-behind}
 use Rattle.table_edits.specs.Acting.{ActsBy, IsScriptOf}
-use Rattle.table_edits.specs.SeenScript.{seen_script}
+use Rattle.carried_tables.specs.Scripts.{seen_script}
 use Rattle.table_edits.specs.Stopping.{StopsBy}
-use Rattle.table_edits.specs.declared.script.Script.{Script}
+use Rattle.carried_tables.specs.declared.script.Script.{Script}
 use Rattle.user_creation.specs.Added.{added_uid}
 use Rattle.user_creation.specs.Plans.{ArePlannedIds}
 use Rattle.user_creation.specs.declared.plan.NewIds.{NewIds}

@@ -5,7 +5,7 @@ ghost use Rattle.account_model.specs.Settings.{Setting};
 ghost use Rattle.account_model.specs.Tables.{table_records};
 ghost use Rattle.account_model.specs.Useradd.{hash_notices, inherited_text, open_hash_text, opens_nothing, range_notices, useradd, useradd_notices};
 ghost use Rattle.table_edits.specs.Acting.{IsOutputOf, IsScriptOf};
-ghost use Rattle.table_edits.specs.SeenScript.{seen_script};
+ghost use Rattle.carried_tables.specs.Scripts.{seen_script};
 ghost use Rattle.user_creation.specs.Added.{added_uid};
 
 use crate::ranges::may_have_ranges;

@@ -5,9 +5,8 @@ ghost use Rattle.account_model.specs.Members.{add_to_group};
 ghost use Rattle.account_model.specs.NewRanges.{allotted};
 ghost use Rattle.account_model.specs.Tables.{in_order, no_edits};
 ghost use Rattle.account_model.specs.Useradd.{add_own_group, add_user, join_groups as joined_groups, new_user};
-ghost use Rattle.table_edits.specs.Additions.{HasAlso};
+ghost use Rattle.carried_tables.specs.Scripts.{HasAlso, seen_script};
 ghost use Rattle.line_edits.specs.SeenEdits.{seen_edits};
-ghost use Rattle.table_edits.specs.SeenScript.{seen_script};
 ghost use Rattle.line_edits.specs.SubidChanges.{subid_becomes};
 
 use crate::plan::NewIds;

@@ -6,7 +6,7 @@ ghost use Rattle.account_model.specs.Request.{operand};
 ghost use Rattle.account_model.specs.Userdel.{kept_text, own_group, reason_to_keep};
 ghost use Rattle.account_model.specs.Userdel.Kept.{has_members, is_primary_of};
 ghost use Rattle.login_defs.specs.Held.{GivesBySettings};
-ghost use Rattle.table_edits.specs.Additions.{HasAlso};
+ghost use Rattle.carried_tables.specs.Scripts.{HasAlso};
 ghost use Rattle.user_removal.specs.KeptGroups.{has_others, notices_of_group, removal_of_group};
 
 use crate::others::{AccountId, first_other};

@@ -6,8 +6,7 @@ ghost use Rattle.account_model.specs.Tables.{in_order};
 ghost use Rattle.account_model.specs.Userdel.{is_shared, own_uid, remove_user as user_removal, userdel};
 ghost use Rattle.login_defs.specs.Held.{HasSettings};
 ghost use Rattle.table_edits.specs.Acting.{ActsBy, IsOutputOf};
-ghost use Rattle.table_edits.specs.Additions.{HasAlso};
-ghost use Rattle.table_edits.specs.SeenScript.{seen_script};
+ghost use Rattle.carried_tables.specs.Scripts.{HasAlso, seen_script};
 ghost use Rattle.user_removal.specs.KeptGroups.{removal_of_group};
 ghost use Rattle.user_removal.specs.Removals.{lines_removal, lists_removal, ranges_removal};
 

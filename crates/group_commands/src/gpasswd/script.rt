@@ -6,8 +6,7 @@ ghost use Rattle.account_model.specs.Hashes.{set_administrators, set_group_hash,
 ghost use Rattle.account_model.specs.Members.{add_to_group, each_members, remove_from_group};
 ghost use Rattle.account_model.specs.Request.{operand};
 ghost use Rattle.account_model.specs.Values.{list_value as names_of_list};
-ghost use Rattle.table_edits.specs.SeenScript.{seen_script};
-ghost use Rattle.table_edits.specs.Additions.{HasAlso};
+ghost use Rattle.carried_tables.specs.Scripts.{HasAlso, seen_script};
 
 use acct_text::{Bytes, Names};
 use command_values::{Asked, list_value};

@@ -1,6 +1,6 @@
 use Rattle.std.proofs.Common.{◌≡◌, map, take}
 use Rattle.account_model.specs.Tables.{in_order}
-use Rattle.table_edits.specs.SeenScript.{seen_script}
+use Rattle.carried_tables.specs.Scripts.{seen_script}
 use Rattle.aging_commands.specs.HashLines.{script_for, seen_new}
 use Rattle.aging_commands.proofs.chpasswd.new_hashes.Given as goal
 

@@ -3,7 +3,7 @@ use Rattle.std.proofs.lemmas.Result.{on_ok_weaker}
 use Rattle.account_model.specs.Chpasswd.{set_last_change}
 use Rattle.account_model.specs.Hashes.{demand_shadow, each_user_hash}
 use Rattle.account_model.specs.Tables.{followed_by}
-use Rattle.table_edits.specs.SeenScript.{seen_script}
+use Rattle.carried_tables.specs.Scripts.{seen_script}
 use Rattle.aging_commands.proofs.ScriptLemmas.{three-also}
 use Rattle.aging_commands.proofs.chpasswd.set_user_hash.Goals as goal
 

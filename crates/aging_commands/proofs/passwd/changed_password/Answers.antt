@@ -2,7 +2,7 @@ use Rattle.std.proofs.Common.{◌∙◌, ap, if◌then◌else◌}
 use Rattle.account_model.specs.Hashes.{demand_shadow, each_user_hash}
 use Rattle.account_model.specs.Request.{operand}
 use Rattle.account_model.specs.Tables.{Script, followed_by, no_edits}
-use Rattle.table_edits.specs.SeenScript.{seen_script}
+use Rattle.carried_tables.specs.Scripts.{seen_script}
 use Rattle.line_edits.specs.HashChanges.{hash_by}
 use Rattle.account_model.specs.Passwd.{password_after, set_password_aging, sets_password_aging}
 use Rattle.aging_commands.proofs.ScriptLemmas.{three-also}

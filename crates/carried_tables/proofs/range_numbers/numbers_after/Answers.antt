@@ -1,10 +1,12 @@
-use Rattle.std.proofs.Common.{[], ◌∷◌, sym, subst}
+use Rattle.std.proofs.Common.{◌≡◌, ◌∙◌, [], ◌∷◌, ap, sym, subst}
 use Rattle.std.specs.Prelude.{IfSome}
+use Rattle.account_model.specs.Edits.Edit.{Become}
 use Rattle.account_model.specs.RecordEdits.{IsWrittenEdit}
 use Rattle.account_model.specs.Records.{subid_format}
 use Rattle.account_model.specs.Tables.{table_after}
 use Rattle.line_edits.specs.SeenEdits.{seen_edit}
 use Rattle.line_edits.specs.SubidChanges.{subid_becomes}
+use Rattle.line_edits.specs.declared.subid_changes.SubidChange.TheVariants.{Rename}
 use Rattle.carried_tables.specs.RangeNumbers.{AreNumbersIn}
 use Rattle.carried_tables.proofs.NumberLemmas.{numbers-added, numbers-kept}
 use Rattle.carried_tables.proofs.range_numbers.numbers_after.Goals as goal
@@ -28,12 +30,14 @@ returns-in_ok-add-in-Add c =
     c.requires.there c.in_ok-numbers-in-Add.ensures (c.in_ok-add-in-Add.ensures {u = tt}))
 
 -- they stay
-pub returns-in-Become : goal.returns-in-Become
-returns-in-Become c =
+pub returns-in-Rename : goal.returns-in-Rename
+returns-in-Rename c =
     let file = c.args.table.now in
-    subst (λ edit. IfSome c.args.known (AreNumbersIn
-    (table_after subid_format (seen_edit subid_becomes edit ∷ []) file))) (sym c.in-Become.is)
-    (numbers-kept (subid_becomes c.in-Become.change) file c.args.known
-    (subst (λ edit. IsWrittenEdit subid_format (seen_edit subid_becomes edit)) c.in-Become.is
-    c.requires.written)
-    (c.keeps_numbers.ensures c.if-keeps_numbers.true) c.requires.known)
+    let f = subid_becomes (Rename c.in-Rename.field-0 c.in-Rename.field-1) in
+    let is : seen_edit subid_becomes c.args.edit.now ≡ Become f =
+    ap (seen_edit subid_becomes) c.in-Become.is
+    ∙ ap (λ change. Become (subid_becomes change)) c.in-Rename.is in
+    subst (λ edit. IfSome c.args.known (AreNumbersIn (table_after subid_format (edit ∷ []) file)))
+    (sym is)
+    (numbers-kept c.in-Rename.field-0 c.in-Rename.field-1 file c.args.known
+    (subst (IsWrittenEdit subid_format) is c.requires.written) c.requires.known)

@@ -2,7 +2,6 @@
 use Rattle.std.proofs.Common.{◌≤◌, ◌∙◌, Bool, Ok, Err, ap, subst, sym, arith}
 use Rattle.std.proofs.lemmas.Result.{IfOk-weaker}
 use Rattle.account_model.specs.Batch.{ensures}
-use Rattle.account_model.specs.Change.{action_of}
 use Rattle.account_model.specs.Records.{greatest_days}
 use Rattle.account_model.specs.Request.{Request}
 use Rattle.account_model.specs.WrittenScript.{IsWrittenScript}
@@ -11,7 +10,7 @@ use Rattle.option_words.specs.Parsed.{request_in}
 use Rattle.tool_answers.specs.declared.decision.Decision.TheVariants.{Refuse}
 use Rattle.tool_answers.specs.declared.tool_fault.ToolFault.TheVariants.{Refused}
 use Rattle.tool_answers.specs.Decisions.{refusal_output}
-use Rattle.suite_tools.specs.Carrying.{EditsDecide, IsOfAction}
+use Rattle.suite_tools.specs.Carrying.{EditsDecide}
 use Rattle.suite_tools.specs.Deciding.{LinesDecideUnder}
 use Rattle.suite_tools.specs.declared.answer.Answered.TheVariants.{Edits, Decides as DecidesAlone, Lines}
 use Rattle.suite_tools.proofs.DecideLemmas.{alone-decides, edits-decide, lines-decide, on-files, refusal-decides}
@@ -31,12 +30,6 @@ decide_edits-requires c =
       written = subst IsWrittenScript (sym of_action.0.edits)
           (c.tools_are_written.ensures request c.args.input.now c.args.day c.args.files.now
           c.requires.held.settings in_time of_action.0.unrefused);
-      of_action = (
-        action_of request c.args.input.now c.args.day c.args.files.now c.requires.held.settings,
-        subst (λ (tool : Tool). IsOfAction tool c.in-Ok-Edits.script c.in-Ok-Edits.output
-            (action_of request c.args.input.now c.args.day c.args.files.now c.requires.held.settings))
-            (sym (c.tool.ensures ∙ ap (λ (one : Request). one.tool) c.of.ensures)) of_action,
-      );
     }
 
 pub returns-in-Ok-Edits : goal.returns-in-Ok-Edits

@@ -4,7 +4,7 @@ use Rattle.account_model.specs.Hashes.{each_user_hash}
 use Rattle.account_model.specs.Request.{operand}
 use Rattle.account_model.specs.Tables.{no_edits}
 use Rattle.account_model.specs.UsermodHash.{hash_after, sets_hash}
-use Rattle.table_edits.specs.Additions.{HasAlso}
+use Rattle.carried_tables.specs.Scripts.{HasAlso}
 use Rattle.line_edits.specs.HashChanges.{hash_by}
 use Rattle.user_changes.proofs.hash.change_hash.Goals as goal
 

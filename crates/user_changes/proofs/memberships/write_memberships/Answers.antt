@@ -4,7 +4,7 @@ use Rattle.account_model.specs.Edits.{each, edit_if}
 use Rattle.account_model.specs.Tables.{followed_by, no_edits}
 use Rattle.account_model.proofs.ScriptLaws.{followed-assoc}
 use Rattle.account_model.specs.Usermod.{changed_group, changed_gshadow, sets_lists}
-use Rattle.table_edits.specs.SeenScript.{seen_script}
+use Rattle.carried_tables.specs.Scripts.{seen_script}
 use Rattle.user_changes.specs.Memberships.{group_edit, gshadow_edit, membership}
 use Rattle.user_changes.proofs.MembershipLemmas.{group-edit, gshadow-edit}
 use Rattle.user_changes.proofs.memberships.write_memberships.Goals as goal

@@ -1,7 +1,7 @@
 use Rattle.std.proofs.Common.{◌∙◌, ◌<◌, ℕ, List, ap, length, map, arith}
 use Rattle.account_model.specs.Members.{add_to_group}
 use Rattle.account_model.specs.Tables.{followed_by, in_order}
-use Rattle.table_edits.specs.SeenScript.{seen_script}
+use Rattle.carried_tables.specs.Scripts.{seen_script}
 use Rattle.user_creation.proofs.JoiningLemmas.{order-on}
 use Rattle.user_creation.proofs.script.join_all.Goals as goal
 

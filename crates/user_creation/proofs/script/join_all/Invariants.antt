@@ -1,7 +1,7 @@
 use Rattle.std.proofs.Common.{◌≡◌, drop, map}
 use Rattle.account_model.specs.Members.{add_to_group}
 use Rattle.account_model.specs.Tables.{followed_by, in_order}
-use Rattle.table_edits.specs.SeenScript.{seen_script}
+use Rattle.carried_tables.specs.Scripts.{seen_script}
 use Rattle.user_creation.proofs.script.join_all.Given as goal
 
 -- with the edits of the groups left, the script has those of all groups behind those of before

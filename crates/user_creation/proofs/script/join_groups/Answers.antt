@@ -6,7 +6,7 @@ use Rattle.account_model.specs.Members.{add_to_group}
 use Rattle.account_model.specs.Request.{operand}
 use Rattle.account_model.specs.Tables.{followed_by, in_order}
 use Rattle.account_model.specs.declared.records.GroupRecord.{GroupRecord}
-use Rattle.table_edits.specs.SeenScript.{seen_script}
+use Rattle.carried_tables.specs.Scripts.{seen_script}
 use Rattle.user_creation.proofs.script.join_groups.Goals as goal
 
 -- the names are those of the groups of `-G`

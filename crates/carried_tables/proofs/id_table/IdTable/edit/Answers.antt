@@ -1,6 +1,6 @@
 use Rattle.std.proofs.Common.{◌≡◌, ◌∙◌, [], drop, take, ap, sym, subst}
 use Rattle.std.specs.Prelude.{is_some}
-use Rattle.std.proofs.lemmas.Result.{on_ok_weaker}
+use Rattle.std.proofs.lemmas.Bool.{not-false}
 use Rattle.account_model.specs.RecordEdits.{IsWrittenEdit}
 use Rattle.line_edits.specs.SeenEdits.{seen_edits}
 use Rattle.line_edits.proofs.EditLists.{edits-from, edits-up_to, no-edits}
@@ -46,9 +46,15 @@ returns g c =
     let becomes = g.R.EditedRecord.becomes in
     let none : c.edits.left.now ≡ [] =
     no-edits c.edits.left.now (sym c.is_empty.ensures ∙ c.edits-test.false) in
-    on_ok_weaker c.gather.result (λ same.
-    same
+    let edited = c.in_ok-gather.ensures
     ∙ no-edit format c.edits.self
     ∙ ap (λ left. table_by format becomes left c.edits.self) (sym none)
-    ∙ c.edits.invariant.made)
-    c.gather.ensures
+    ∙ c.edits.invariant.made in
+    record {
+      edited = edited;
+      left = λ same.
+          edited
+          ∙ ap (λ edits. table_by format becomes edits c.args.self.now)
+          (no-edits c.args.edits.now (sym c.is_empty-2.ensures ∙ not-false _ same))
+          ∙ sym (no-edit format c.args.self.now);
+    }

@@ -1,20 +1,11 @@
-use Rattle.std.proofs.Common.{◌∙◌, map, sym, subst}
-use Rattle.std.specs.Prelude.{IfSome}
+use Rattle.std.proofs.Common.{◌∙◌, sym}
 use Rattle.std.proofs.lemmas.Bool.{not-true}
-use Rattle.account_model.specs.Tables.{table_records}
-use Rattle.carried_tables.specs.KeptIds.{AreIdsOf, table_counts}
-use Rattle.carried_tables.proofs.KeptIdLemmas.{kept-used}
+use Rattle.carried_tables.proofs.KeptIdLemmas.{known-used}
 use Rattle.carried_tables.proofs.id_table.IdTable.lacks.Goals as goal
 
 -- an ID that isn't used is that of no record
 pub returns-in-Some : goal.returns-in-Some
 returns-in-Some g c = λ lacks.
-    let format = g.R.TableRecord.format in
-    let id_of = g.R.NumberedRecord.id_of in
-    let file = c.args.self.now in
-    let are : AreIdsOf c.in-Some.ids (table_counts format id_of file) =
-    subst (λ file. AreIdsOf c.in-Some.ids (table_counts format id_of file)) c.self.view_is
-    (subst (λ ids. IfSome ids (λ ids.
-    AreIdsOf ids (table_counts format id_of c.self.inside.table))) c.in-Some.is c.self.invariant) in
-    sym (kept-used c.in-Some.ids (map id_of (table_records format file)) are c.args.id)
+    sym (known-used g.R.TableRecord.format g.R.NumberedRecord.id_of c.self.inside.ids c.in-Some.ids
+    c.self.inside.table c.args.self.now c.self.invariant c.in-Some.is c.self.view_is c.args.id)
     ∙ sym c.holds.ensures ∙ not-true c.holds.result lacks

@@ -1,4 +1,4 @@
-use Rattle.std.proofs.Common.{◌∙◌, ap, sym}
+use Rattle.std.proofs.Common.{◌∙◌, ap, refl, sym}
 use Rattle.account_model.specs.Records.{subid_format}
 use Rattle.line_edits.specs.SubidChanges.{subid_becomes}
 use Rattle.line_edits.proofs.EditLists.{no-edits}
@@ -10,6 +10,9 @@ use Rattle.carried_tables.proofs.range_table.RangeTable.edit.Goals as goal
 pub returns-then-is_empty : goal.returns-then-is_empty
 returns-then-is_empty c =
     let file = c.args.self.now in
-    no-edit subid_format file
-    ∙ ap (λ edits. table_by subid_format subid_becomes edits file)
-    (sym (no-edits c.args.edits.now (sym c.is_empty.ensures ∙ c.if-is_empty.true)))
+    record {
+      edited = no-edit subid_format file
+          ∙ ap (λ edits. table_by subid_format subid_becomes edits file)
+          (sym (no-edits c.args.edits.now (sym c.is_empty.ensures ∙ c.if-is_empty.true)));
+      left = λ same. refl;
+    }

@@ -45,4 +45,4 @@ returns c =
     no-edit subid_format c.edits.self
     ∙ ap (λ left. table_by subid_format subid_becomes left c.edits.self) (sym none)
     ∙ c.edits.invariant.made
-    ∙ ap (table_by subid_format subid_becomes c.args.edits.now) c.in_ok-make_index.ensures
+    ∙ ap (table_by subid_format subid_becomes c.args.edits.now) (c.index.ensures ∙ c.self.view_is)

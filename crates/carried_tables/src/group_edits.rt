@@ -5,7 +5,7 @@ ghost use Rattle.account_model.specs.Edits.Edit.{Become};
 ghost use Rattle.account_model.specs.Groupdel.{remove_group as group_removal};
 ghost use Rattle.account_model.specs.Members.{add_to_group as addition_to_group};
 ghost use Rattle.account_model.specs.Tables.{no_edits};
-ghost use Rattle.table_edits.specs.Additions.{HasAlso};
+ghost use Rattle.carried_tables.specs.Scripts.{HasAlso};
 ghost use Rattle.line_edits.specs.GroupChanges.{group_becomes};
 ghost use Rattle.line_edits.specs.GshadowChanges.{gshadow_becomes};
 ghost use Rattle.line_edits.specs.declared.group_changes.GroupChange.TheVariants.{Named};

@@ -3,7 +3,7 @@
 ghost use Rattle.std.specs.Prelude.{[], ◌∷◌, OnOk};
 ghost use Rattle.account_model.specs.Edits.Edit.{Become};
 ghost use Rattle.account_model.specs.Tables.{no_edits};
-ghost use Rattle.table_edits.specs.Additions.{HasAlso};
+ghost use Rattle.carried_tables.specs.Scripts.{HasAlso};
 ghost use Rattle.line_edits.specs.PasswdChanges.{passwd_becomes};
 ghost use Rattle.line_edits.specs.ShadowChanges.{shadow_becomes};
 ghost use Rattle.line_edits.specs.declared.passwd_changes.PasswdChange.TheVariants.{Named};

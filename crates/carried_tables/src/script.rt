@@ -37,7 +37,7 @@ impl Drop for Script {
 }
 
 impl Script {
-    ghost use Rattle.table_edits.specs.SeenScript.{seen_script};
+    ghost use Rattle.carried_tables.specs.Scripts.{seen_script};
 
     /// A script without edits, which allocates nothing.
     pub fn new(alloc: Global) -> Self
