@@ -11,7 +11,7 @@ use Rattle.account_model.specs.declared.records.PasswdRecord.{PasswdRecord}
 use Rattle.account_model.specs.Members.{without_name}
 use Rattle.account_model.specs.Request.{Request, has_option, operand}
 use Rattle.account_model.specs.Userdel.{reason_to_keep}
-use Rattle.account_model.specs.Userdel.Kept.{has_members, is_primary_of}
+use Rattle.account_model.specs.Userdel.KeptGroup.{has_members, is_primary_of}
 use Rattle.account_model.specs.Users.{other_users}
 use Rattle.user_removal.specs.KeptGroups.{has_others}
 use Rattle.user_removal.specs.Others.{has_id}

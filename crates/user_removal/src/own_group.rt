@@ -4,7 +4,7 @@ ghost use Rattle.std.specs.Prelude.{◌≡◌, IfOk, OnOk, option_map};
 ghost use Rattle.std.specs.List.{list_any};
 ghost use Rattle.account_model.specs.Request.{operand};
 ghost use Rattle.account_model.specs.Userdel.{kept_text, own_group, reason_to_keep};
-ghost use Rattle.account_model.specs.Userdel.Kept.{has_members, is_primary_of};
+ghost use Rattle.account_model.specs.Userdel.KeptGroup.{has_members, is_primary_of};
 ghost use Rattle.login_defs.specs.Held.{GivesBySettings};
 ghost use Rattle.carried_tables.specs.Scripts.{HasAlso};
 ghost use Rattle.user_removal.specs.KeptGroups.{has_others, notices_of_group, removal_of_group};

@@ -2,7 +2,7 @@ use Rattle.std.proofs.Common.{sym, ap, ◌∙◌}
 use Rattle.std.specs.Prelude.{Some, None, find, option_map}
 use Rattle.account_model.specs.Request.{operand}
 use Rattle.account_model.specs.Userdel.{kept_text}
-use Rattle.account_model.specs.Userdel.Kept.{has_members, is_primary_of}
+use Rattle.account_model.specs.Userdel.KeptGroup.{has_members, is_primary_of}
 use Rattle.account_model.specs.Users.{other_users}
 use Rattle.user_removal.specs.KeptGroups.{has_others}
 use Rattle.user_removal.specs.Others.{has_id}
