@@ -30,9 +30,10 @@ use Rattle.suite_answers.specs.declared.cause.Cause.TheVariants.{Same as IsSame}
 use Rattle.account_model.specs.declared.refusal.Refusal.{Refusal}
 use Rattle.account_model.specs.declared.tool.Tool.{Tool}
 use Rattle.account_model.specs.Text.{first_some}
-use Rattle.account_model.specs.Action.{Made, outcome_of}
+use Rattle.account_model.specs.Action.{Action, Made, outcome_of}
 use Rattle.account_model.specs.Batch.{LineRefusal, Written, batch, ensures, written_by}
-use Rattle.account_model.proofs.DeedLaws.{batch-stands, changes-is}
+use Rattle.account_model.proofs.BatchLaws.{outcome-made}
+use Rattle.account_model.proofs.DeedLaws.{batch-stands, changes-is, files-stand}
 use Rattle.account_model.specs.Change.{action_of}
 use Rattle.account_model.specs.BatchLines.{line_requests}
 use Rattle.account_model.specs.Settings.{Setting, bad_line, settings_of}
@@ -47,7 +48,6 @@ use Rattle.login_defs.specs.Faults.{file_fault}
 use Rattle.tool_answers.specs.declared.decision.Decision.{Decision}
 use Rattle.tool_answers.specs.declared.decision.Decision.TheVariants.{Change as DecidesChange, Same as DecidesSame, Refuse, RefuseLine}
 use Rattle.tool_answers.specs.Decisions.{decision_by, decision_of, decision_of_lines, line_refusal_output, refusal_output, written_decision, written_output}
-use Rattle.suite_tools.proofs.CarryLemmas.{made-stands}
 use Rattle.suite_tools.specs.Deciding.{command_decision}
 use Rattle.commit_steps.proofs.WithTables.{makes-change, with-changed}
 use Rattle.suite_answers.specs.declared.cause.Cause.TheVariants.{BadSetting}
@@ -60,6 +60,16 @@ use Rattle.suite_session.specs.Answers.{answer_on, cause_of_answer, given_for, I
 use Rattle.suite_session.specs.Deeds.{is_change}
 use Rattle.suite_session.specs.Loading.{DecidesOn}
 use Rattle.suite_core.specs.Deciding.{bad_line as bad_line_of, decided_by, large_in, large_table, settings_text}
+
+-- what a tool makes has each table where it stood
+made-stands :
+    (action : Action) (files : Files) (made : Made)
+    → outcome_of action files ≡ Ok made
+    → (table : Tab)
+    → is_some (table_of made.files table) ≡ is_some (table_of files table)
+made-stands action files made is table =
+    subst (λ (one : Made). is_some (table_of one.files table) ≡ is_some (table_of files table))
+    (outcome-made action files made is).makes (files-stand action.script files table)
 
 -- ---- The files that were loaded
 
