@@ -55,7 +55,7 @@ pub is_table_for : (whose : WordsOf) (tool : Tool) → IsTable (options_for whos
 is_table_for Command tool = is_table tool
 is_table_for Line tool =
     table-behind (root_form tool) (own_options tool)
-    (table-behind (with_value "P" "prefix") (root_form tool ∷ own_options tool) (is_table tool))
+    (table-behind (with_value "P" "prefix" []) (root_form tool ∷ own_options tool) (is_table tool))
 
 -- a tool's name names it
 pub tool_of_its_name : (tool : Tool) → tool_named (tool_name tool) ≡ Some tool

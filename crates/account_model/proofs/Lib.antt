@@ -29,6 +29,7 @@ pub mod ReportScripts
 pub mod ToolLaws
 pub mod ReportLaws
 pub mod SeenLemmas
+pub mod TableLemmas
 mod Commands
 mod UseraddRows
 mod UsermodRows

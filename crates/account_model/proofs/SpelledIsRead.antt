@@ -70,8 +70,7 @@ reading_of_value {table = table} {letter = letter} rest has =
 pub meaning_of_name : {table : List OptionForm} {letter : ℕ} {takes_value : Bool} (name : Word)
     → IsTable table → HasName table name letter takes_value →
     word_meaning table (hyphen ∷ hyphen ∷ name)
-    ≡ has_options (name_reading (Some (record
-    { letter = letter; long_name = Some name; takes_value = takes_value })))
+    ≡ has_options (cond takes_value (waits_for_value letter) (complete (as_flag letter)))
 meaning_of_name {table = table} [] is has = let found : form_of_name table [] ≡ Some has.form =
     has.found in let missing : form_of_name table [] ≡ None = is.names in cc (found, missing)
 meaning_of_name {table = table} {letter = letter} {takes_value = takes_value} (c ∷ rest) is has =

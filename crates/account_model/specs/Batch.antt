@@ -5,11 +5,13 @@ use Rattle.std.specs.Prelude.{◌≡◌, ℕ, Bool, true, false, ◌&&◌, if◌
 use Rattle.std.specs.declared.result.Result.TheVariants.{Ok, Err}
 use Rattle.acct_text.specs.declared.files.Files.{Files}
 use Rattle.account_model.specs.declared.tool.Tool.{Tool}
-use Rattle.account_model.specs.declared.tool.Tool.TheVariants.{Useradd, Userdel, Groupadd, Groupdel, Gpasswd}
 use Rattle.account_model.specs.BatchLines.{LineRequest}
 use Rattle.account_model.specs.Settings.{Setting}
 use Rattle.account_model.specs.declared.refusal.Refusal.{Refusal}
 use Rattle.account_model.specs.declared.refusal.Refusal.TheVariants.{UserExists, GroupExists, NoUser, NoGroup, NotMember}
+use Rattle.account_model.specs.declared.row.Done.{Done}
+use Rattle.account_model.specs.declared.row.Done.TheVariants.{UserStands, GroupStands, UserGone, GroupGone, MemberGone}
+use Rattle.account_model.specs.Rows.{row_of}
 use Rattle.account_model.specs.Request.{Request, has_option}
 use Rattle.account_model.specs.Action.{Made, outcome_of}
 use Rattle.account_model.specs.Change.{action_of}
@@ -65,15 +67,19 @@ with_rest line (Ok made) rest =
 
 -- ---- Lines that are done already
 
--- whether the tool refuses as what it is to make stands already: a user or a group of the name; or as
--- what it is to remove is gone: the user, the group, or the member of the group
+-- whether a refusal says that what the tool is to make stands already: a user or a group of the name;
+-- or that what it is to remove is gone: the user, the group, or the member of the group
+abbrev pub says_done : Done → Refusal → Bool
+says_done UserStands (UserExists name) = true
+says_done GroupStands (GroupExists name) = true
+says_done UserGone (NoUser name) = true
+says_done GroupGone (NoGroup name) = true
+says_done MemberGone (NotMember user group) = true
+says_done done refusal = false
+
+-- whether the tool refuses so
 abbrev pub is_done : Tool → Refusal → Bool
-is_done Useradd (UserExists name) = true
-is_done Groupadd (GroupExists name) = true
-is_done Userdel (NoUser name) = true
-is_done Groupdel (NoGroup name) = true
-is_done Gpasswd (NotMember user group) = true
-is_done tool refusal = false
+is_done tool refusal = says_done (row_of tool).done refusal
 
 -- whether the batch passes such lines by
 abbrev pub ensures : Request → Bool

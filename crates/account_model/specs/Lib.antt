@@ -64,6 +64,7 @@ pub mod ToolOptions
 pub mod Spelling
 pub mod Words
 pub mod LineWords
+pub mod ValueForms
 pub mod Values
 pub mod Settings
 pub mod Ids

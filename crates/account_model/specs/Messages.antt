@@ -1,69 +1,28 @@
 -- The texts of refusals, as a tool prints them on the error stream. They are this profile's own.
-use Rattle.std.specs.Prelude.{ℕ, List, [], ◌∷◌, ◌++◌, codes, decimal, flat_map, Option, None, Some, if◌then◌else◌}
+use Rattle.std.specs.Prelude.{ℕ, List, [], ◌∷◌, ◌++◌, codes, decimal, flat_map, Option, None, Some}
 use Rattle.account_model.specs.declared.tool.Tool.{Tool}
-use Rattle.account_model.specs.declared.tool.Tool.TheVariants.{Chage, Chfn, Passwd}
 use Rattle.account_model.specs.declared.refusal.Refusal.{Refusal}
 use Rattle.account_model.specs.declared.refusal.Refusal.TheVariants.{BadName, BadKey, BadValue, UserExists, GroupExists, NoUser, NoGroup, UidInUse, GidInUse, NoFreeUid, NoFreeGid, NoGap, Meets, EmptyHash, PrimaryGroup, NotMember, NoShadow, NoGshadow, BadLine, NoRanges, Multiple}
 use Rattle.account_model.specs.declared.refusal.LineProblem.{LineProblem}
 use Rattle.account_model.specs.declared.refusal.LineProblem.TheVariants.{NoColon, HashColon, UnknownUser, UnknownGroup, LineEnd}
 use Rattle.acct_text.specs.Bytes.{newline}
 use Rattle.acct_text.specs.Tables.{table_name}
-use Rattle.account_model.specs.Text.{has_byte}
+use Rattle.account_model.specs.Options.{OptionForm}
+use Rattle.account_model.specs.Spelling.{form_of_letter}
+use Rattle.account_model.specs.ToolOptions.{own_options}
+use Rattle.account_model.specs.ValueForms.{key_form, name_form}
 use Rattle.account_model.specs.Words.{tool_name}
 
--- ---- The forms that values have (specs/Names, specs/Values)
-
--- of a name, in short
-abbrev pub name_form : List ℕ
-name_form = codes "1 to 32 letters, digits, _ . or -, not - first, not digits alone"
-
--- of a home, a base folder and a shell
-abbrev pub path_form : List ℕ
-path_form = codes "a path that begins with /, no : and no newline"
-
--- of a comment and a hash
-abbrev pub field_form : List ℕ
-field_form = codes "no : and no newline"
-
--- of a part of a comment
-abbrev pub part_form : List ℕ
-part_form = codes "no : , = and no newline"
-
--- of a UID and a GID
-abbrev pub id_form : List ℕ
-id_form = codes "a number from 0 to 4294967294"
-
--- of a setting of login.defs
-abbrev pub key_form : List ℕ
-key_form = codes "KEY=VALUE, with a key that accounts-useradd(8) lists"
-
--- of a range of subordinate IDs
-abbrev pub range_form : List ℕ
-range_form = codes "FIRST-LAST, two IDs"
-
--- of a number of days
-abbrev pub days_form : List ℕ
-days_form = codes "-1 or a number from 0 to 2147483647"
-
--- of a date
-abbrev pub date_form : List ℕ
-date_form = codes "a date as 2026-01-31, days since 1970-01-01, or -1"
-
--- the form of the value of an option by its letter, which has one meaning for all tools but chage,
--- chfn and passwd
-abbrev pub wanted_form : Tool → ℕ → List ℕ
-wanted_form Chage letter = if has_byte letter (codes "dE") then date_form else days_form
-wanted_form Chfn letter = if has_byte letter (codes "o") then field_form else part_form
-wanted_form Passwd letter = days_form
-wanted_form tool letter =
-    if has_byte letter (codes "bds") then path_form else
-    if has_byte letter (codes "cp") then field_form else
-    if has_byte letter (codes "gu") then id_form else
-    if has_byte letter (codes "ln") then name_form else
-    if has_byte letter (codes "vVwW") then range_form else
-    (if has_byte letter (codes "f") then days_form else date_form)
-
 -- ---- Texts
+
+-- the form that an option says of its value
+abbrev pub form_said : Option OptionForm → List ℕ
+form_said None = []
+form_said (Some option) = option.wanted
+
+-- the form of the value of a tool's option, by its letter
+abbrev pub wanted_form : Tool → ℕ → List ℕ
+wanted_form tool letter = form_said (form_of_letter (own_options tool) letter)
 
 -- what can't be used, with the form that is wanted
 abbrev pub but_wanted : List ℕ → List ℕ → List ℕ

@@ -1,6 +1,6 @@
 -- What an option is and what a rule between options, as the row of a tool lists them (specs/Rows).
 use Prim.Native.String.{String}
-use Rattle.std.specs.Prelude.{ℕ, Bool, true, false, not, ◌&&◌, ◌||◌, ◌==◌, nat_le, List, length, filter, Option, Some, None, codes}
+use Rattle.std.specs.Prelude.{ℕ, Bool, true, false, not, ◌&&◌, ◌||◌, ◌==◌, nat_le, List, [], length, filter, Option, Some, None, codes}
 use Rattle.std.specs.List.{list_any, list_all}
 use Rattle.std.specs.Str.{byte}
 use Rattle.account_model.specs.declared.given.Given.{Given}
@@ -12,26 +12,35 @@ Word = Bytes
 
 -- ---- The options
 
--- an option that a tool takes: its letter, its long name where it has one, and whether a value
--- goes with it (getopt_long(3), `struct option`)
+-- an option that a tool takes: its letter, its long name where it has one, whether a value goes with
+-- it (getopt_long(3), `struct option`), and the form of that value as a refusal tells it
 pub record OptionForm : Type 0 where
   pub letter : ℕ
   pub long_name : Option Word
   pub takes_value : Bool
+  pub wanted : List ℕ
+
+-- an option that takes no value
+abbrev pub no_value : ℕ → Option Word → OptionForm
+no_value letter name =
+    record { letter = letter; long_name = name; takes_value = false; wanted = [] }
 
 -- `-x` or `--name`
 abbrev pub flag : String → String → OptionForm
-flag letter name =
-    record { letter = byte letter; long_name = Some (codes name); takes_value = false }
+flag letter name = no_value (byte letter) (Some (codes name))
 
--- `-x V` or `--name V`
-abbrev pub with_value : String → String → OptionForm
-with_value letter name =
-    record { letter = byte letter; long_name = Some (codes name); takes_value = true }
+-- `-x V` or `--name V`, with a V of the form
+abbrev pub with_value : String → String → List ℕ → OptionForm
+with_value letter name form = record {
+  letter = byte letter;
+  long_name = Some (codes name);
+  takes_value = true;
+  wanted = form;
+}
 
 -- `-x`, which has no long name
 abbrev pub short_flag : String → OptionForm
-short_flag letter = record { letter = byte letter; long_name = None; takes_value = false }
+short_flag letter = no_value (byte letter) None
 
 -- ---- The options that are given
 

@@ -6,7 +6,12 @@ use Rattle.acct_text.specs.declared.Tab.{Tab}
 use Rattle.acct_text.specs.declared.Tab.TheVariants.{Passwd, Shadow, Group, Gshadow, Subuid, Subgid}
 use Rattle.account_model.specs.declared.tool.Tool.{Tool}
 use Rattle.account_model.specs.declared.tool.Tool.TheVariants.{Useradd, Usermod, Userdel, Chfn, Chsh, Groupadd, Groupmod, Groupdel, Gpasswd, Groupmems, Chage, Chpasswd, Chgpasswd, Passwd as ChangePasswd, Pwconv, Pwunconv, Grpconv, Grpunconv, Pwck, Grpck, Getsubids, Batch}
+use Rattle.account_model.specs.declared.row.Done.{Done}
+use Rattle.account_model.specs.declared.row.Done.TheVariants.{Never, UserStands, GroupStands, UserGone, GroupGone, MemberGone}
+use Rattle.account_model.specs.declared.row.InputKind.{InputKind}
+use Rattle.account_model.specs.declared.row.InputKind.TheVariants.{Nothing, Hashes, Commands}
 use Rattle.account_model.specs.Options.{Word, OptionForm, Rule, alone, exactly_one, flag, not_both, one_of, only_with, rule, short_flag, some_of, some_option, with_value}
+use Rattle.account_model.specs.ValueForms.{date_form, days_form, field_form, id_form, key_form, name_form, part_form, path_form, range_form}
 use Rattle.account_model.specs.declared.tool_statuses.ToolStatuses.{ToolStatuses}
 use Rattle.account_model.specs.ToolStatuses.{chage_statuses, check_statuses, chfn_statuses, common_statuses, conversion_statuses, getsubids_statuses, gpasswd_statuses, group_statuses, passwd_statuses, user_statuses}
 
@@ -18,6 +23,16 @@ pub data Reporting : Type 0 where
   where_given : Word → List Tab → Reporting
   -- always: of these tables where the option of this letter is given, and else of those
   always : Word → List Tab → List Tab → Reporting
+
+-- whether there is anything to read in an input of this kind
+abbrev pub is_read : InputKind → Bool
+is_read Nothing = false
+is_read kind = true
+
+-- whether its lines are commands
+abbrev pub has_commands : InputKind → Bool
+has_commands Commands = true
+has_commands kind = false
 
 -- what is said of a tool in lists and numbers
 pub record ToolRow : Type 0 where
@@ -32,10 +47,12 @@ pub record ToolRow : Type 0 where
   pub most : ℕ
   -- the rules between its options, in the order in which they are tested
   pub rules : List Rule
-  -- whether it reads the input
-  pub reads_input : Bool
+  -- what it reads from the input
+  pub input : InputKind
   -- whether a line of a batch may name it; each that it may changes tables, and reads no input
   pub is_for_lines : Bool
+  -- which of its refusals says that such a line is done already
+  pub done : Done
   pub reporting : Reporting
   pub statuses : ToolStatuses
   -- the letters of the options that the wrapper by the old names takes beside these, and their names
@@ -51,8 +68,9 @@ common_row = record {
   least = 1;
   most = 1;
   rules = [];
-  reads_input = false;
+  input = Nothing;
   is_for_lines = true;
+  done = Never;
   reporting = never;
   statuses = common_statuses;
   wrapper_letters = [];
@@ -82,7 +100,7 @@ hashes_row = record common_row {
   least = 0;
   most = 0;
   rules = rule "-e is needed" (some_of (codes "e")) ∷ [];
-  reads_input = true;
+  input = Hashes;
   is_for_lines = false;
   wrapper_letters = codes "c";
   wrapper_names = codes "crypt-method" ∷ [];
@@ -101,29 +119,30 @@ conversion_row = record common_row {
 abbrev pub row_of : Tool → ToolRow
 row_of Useradd = record common_row {
   name = codes "useradd";
-  options = with_value "b" "base-dir"
-      ∷ with_value "c" "comment"
-      ∷ with_value "d" "home-dir"
-      ∷ with_value "e" "expiredate"
-      ∷ with_value "f" "inactive"
+  options = with_value "b" "base-dir" path_form
+      ∷ with_value "c" "comment" field_form
+      ∷ with_value "d" "home-dir" path_form
+      ∷ with_value "e" "expiredate" date_form
+      ∷ with_value "f" "inactive" days_form
       ∷ flag "F" "add-subids-for-system"
-      ∷ with_value "g" "gid"
-      ∷ with_value "G" "groups"
-      ∷ with_value "K" "key"
+      ∷ with_value "g" "gid" id_form
+      ∷ with_value "G" "groups" name_form
+      ∷ with_value "K" "key" key_form
       ∷ flag "l" "no-log-init"
       ∷ flag "M" "no-create-home"
       ∷ flag "N" "no-user-group"
       ∷ flag "o" "non-unique"
-      ∷ with_value "p" "password"
+      ∷ with_value "p" "password" field_form
       ∷ flag "r" "system"
-      ∷ with_value "s" "shell"
-      ∷ with_value "u" "uid"
+      ∷ with_value "s" "shell" path_form
+      ∷ with_value "u" "uid" id_form
       ∷ flag "U" "user-group"
       ∷ [];
   rules = rule "-g and -U exclude each other" (not_both (byte "g") (byte "U"))
       ∷ rule "-N and -U exclude each other" (not_both (byte "N") (byte "U"))
       ∷ rule "-o needs -u" (only_with (byte "o") (byte "u"))
       ∷ [];
+  done = UserStands;
   statuses = user_statuses;
   wrapper_letters = codes "km";
   wrapper_names = codes "badname" ∷ codes "create-home" ∷ codes "skel" ∷ [];
@@ -131,23 +150,23 @@ row_of Useradd = record common_row {
 row_of Usermod = record common_row {
   name = codes "usermod";
   options = flag "a" "append"
-      ∷ with_value "c" "comment"
-      ∷ with_value "d" "home"
-      ∷ with_value "e" "expiredate"
-      ∷ with_value "f" "inactive"
-      ∷ with_value "g" "gid"
-      ∷ with_value "G" "groups"
-      ∷ with_value "l" "login"
+      ∷ with_value "c" "comment" field_form
+      ∷ with_value "d" "home" path_form
+      ∷ with_value "e" "expiredate" date_form
+      ∷ with_value "f" "inactive" days_form
+      ∷ with_value "g" "gid" id_form
+      ∷ with_value "G" "groups" name_form
+      ∷ with_value "l" "login" name_form
       ∷ flag "L" "lock"
       ∷ flag "o" "non-unique"
-      ∷ with_value "p" "password"
-      ∷ with_value "s" "shell"
-      ∷ with_value "u" "uid"
+      ∷ with_value "p" "password" field_form
+      ∷ with_value "s" "shell" path_form
+      ∷ with_value "u" "uid" id_form
       ∷ flag "U" "unlock"
-      ∷ with_value "v" "add-subuids"
-      ∷ with_value "V" "del-subuids"
-      ∷ with_value "w" "add-subgids"
-      ∷ with_value "W" "del-subgids"
+      ∷ with_value "v" "add-subuids" range_form
+      ∷ with_value "V" "del-subuids" range_form
+      ∷ with_value "w" "add-subgids" range_form
+      ∷ with_value "W" "del-subgids" range_form
       ∷ [];
   rules = rule "-a needs -G" (only_with (byte "a") (byte "G"))
       ∷ rule "-o needs -u" (only_with (byte "o") (byte "u"))
@@ -161,17 +180,18 @@ row_of Usermod = record common_row {
 row_of Userdel = record common_row {
   name = codes "userdel";
   options = flag "f" "force" ∷ [];
+  done = UserGone;
   statuses = user_statuses;
   wrapper_letters = codes "r";
   wrapper_names = codes "remove" ∷ [];
 }
 row_of Chfn = record common_row {
   name = codes "chfn";
-  options = with_value "f" "full-name"
-      ∷ with_value "r" "room"
-      ∷ with_value "w" "work-phone"
-      ∷ with_value "h" "home-phone"
-      ∷ with_value "o" "other"
+  options = with_value "f" "full-name" part_form
+      ∷ with_value "r" "room" part_form
+      ∷ with_value "w" "work-phone" part_form
+      ∷ with_value "h" "home-phone" part_form
+      ∷ with_value "o" "other" field_form
       ∷ [];
   rules = wants_option ∷ [];
   is_for_lines = false;
@@ -179,7 +199,7 @@ row_of Chfn = record common_row {
 }
 row_of Chsh = record common_row {
   name = codes "chsh";
-  options = with_value "s" "shell" ∷ [];
+  options = with_value "s" "shell" path_form ∷ [];
   rules = rule "-s is needed" (some_of (codes "s")) ∷ [];
   is_for_lines = false;
   statuses = chfn_statuses;
@@ -187,23 +207,24 @@ row_of Chsh = record common_row {
 row_of Groupadd = record common_row {
   name = codes "groupadd";
   options = flag "f" "force"
-      ∷ with_value "g" "gid"
-      ∷ with_value "K" "key"
+      ∷ with_value "g" "gid" id_form
+      ∷ with_value "K" "key" key_form
       ∷ flag "o" "non-unique"
-      ∷ with_value "p" "password"
+      ∷ with_value "p" "password" field_form
       ∷ flag "r" "system"
       ∷ [];
   rules = rule "-o needs -g" (only_with (byte "o") (byte "g")) ∷ [];
+  done = GroupStands;
   statuses = group_statuses;
   wrapper_letters = codes "U";
   wrapper_names = codes "users" ∷ [];
 }
 row_of Groupmod = record common_row {
   name = codes "groupmod";
-  options = with_value "g" "gid"
-      ∷ with_value "n" "new-name"
+  options = with_value "g" "gid" id_form
+      ∷ with_value "n" "new-name" name_form
       ∷ flag "o" "non-unique"
-      ∷ with_value "p" "password"
+      ∷ with_value "p" "password" field_form
       ∷ [];
   rules = rule "-o needs -g" (only_with (byte "o") (byte "g"))
       ∷ rule "-g, -n or -p is needed" (some_of (codes "gnp"))
@@ -215,27 +236,29 @@ row_of Groupmod = record common_row {
 row_of Groupdel = record common_row {
   name = codes "groupdel";
   options = flag "f" "force" ∷ [];
+  done = GroupGone;
   statuses = group_statuses;
 }
 row_of Gpasswd = record common_row {
   name = codes "gpasswd";
   root = byte "Q";
-  options = with_value "a" "add"
-      ∷ with_value "d" "delete"
-      ∷ with_value "A" "administrators"
-      ∷ with_value "M" "members"
+  options = with_value "a" "add" name_form
+      ∷ with_value "d" "delete" name_form
+      ∷ with_value "A" "administrators" name_form
+      ∷ with_value "M" "members" name_form
       ∷ flag "r" "remove-password"
       ∷ flag "R" "restrict"
       ∷ [];
   rules = wants_option ∷ rule "only -A and -M go together" (alone (codes "adrR")) ∷ [];
+  done = MemberGone;
   statuses = gpasswd_statuses;
   wrapper_names = codes "delete-password" ∷ [];
 }
 row_of Groupmems = record common_row {
   name = codes "groupmems";
-  options = with_value "a" "add"
-      ∷ with_value "d" "delete"
-      ∷ with_value "g" "group"
+  options = with_value "a" "add" name_form
+      ∷ with_value "d" "delete" name_form
+      ∷ with_value "g" "group" name_form
       ∷ flag "l" "list"
       ∷ flag "p" "purge"
       ∷ [];
@@ -250,13 +273,13 @@ row_of Groupmems = record common_row {
 }
 row_of Chage = record common_row {
   name = codes "chage";
-  options = with_value "d" "lastday"
-      ∷ with_value "E" "expiredate"
-      ∷ with_value "I" "inactive"
+  options = with_value "d" "lastday" date_form
+      ∷ with_value "E" "expiredate" date_form
+      ∷ with_value "I" "inactive" days_form
       ∷ flag "l" "list"
-      ∷ with_value "m" "mindays"
-      ∷ with_value "M" "maxdays"
-      ∷ with_value "W" "warndays"
+      ∷ with_value "m" "mindays" days_form
+      ∷ with_value "M" "maxdays" days_form
+      ∷ with_value "W" "warndays" days_form
       ∷ [];
   rules = wants_option ∷ rule "-l goes with no other option" (alone (codes "l")) ∷ [];
   reporting = where_given (codes "l") (Passwd ∷ Shadow ∷ []);
@@ -270,13 +293,13 @@ row_of ChangePasswd = record common_row {
   name = codes "passwd";
   options = flag "d" "delete"
       ∷ flag "e" "expire"
-      ∷ with_value "i" "inactive"
+      ∷ with_value "i" "inactive" days_form
       ∷ flag "l" "lock"
-      ∷ with_value "n" "mindays"
+      ∷ with_value "n" "mindays" days_form
       ∷ flag "S" "status"
       ∷ flag "u" "unlock"
-      ∷ with_value "w" "warndays"
-      ∷ with_value "x" "maxdays"
+      ∷ with_value "w" "warndays" days_form
+      ∷ with_value "x" "maxdays" days_form
       ∷ [];
   rules = wants_option
       ∷ rule "-S goes with no other option" (alone (codes "S"))
@@ -313,6 +336,6 @@ row_of Batch = record common_row {
   name = codes "batch";
   options = flag "e" "ensure" ∷ [];
   least = 0;
-  reads_input = true;
+  input = Commands;
   is_for_lines = false;
 }

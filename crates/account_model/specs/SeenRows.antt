@@ -1,5 +1,5 @@
 -- What is seen of the rows in src/rows.
-use Rattle.std.specs.Prelude.{[], ◌∷◌, Some, None, true, false, map}
+use Rattle.std.specs.Prelude.{[], ◌∷◌, Some, None, true, map}
 use Rattle.account_model.specs.declared.option_form.OptionForm.{OptionForm as FormRow}
 use Rattle.account_model.specs.declared.option_form.OptionForm.TheVariants.{Flag, Value, ShortFlag}
 use Rattle.account_model.specs.declared.option_form.Rule.{Rule as RuleRow}
@@ -8,16 +8,19 @@ use Rattle.account_model.specs.declared.option_form.Test.TheVariants.{NotBoth, O
 use Rattle.account_model.specs.declared.row.Reporting.{Reporting as ReportingRow}
 use Rattle.account_model.specs.declared.row.Reporting.TheVariants.{Never, WhereGiven, Always}
 use Rattle.account_model.specs.declared.row.ToolRow.{ToolRow as Row}
-use Rattle.account_model.specs.Options.{OptionForm, Rule, Test, alone, exactly_one, not_both, one_of, only_with, some_of, some_option}
+use Rattle.account_model.specs.Options.{OptionForm, Rule, Test, alone, exactly_one, no_value, not_both, one_of, only_with, some_of, some_option}
 use Rattle.account_model.specs.Rows.{Reporting, ToolRow, always, never, where_given}
 
 -- an option (getopt_long(3), `struct option`)
 abbrev pub form_of : FormRow → OptionForm
-form_of (Flag letter name) =
-    record { letter = letter; long_name = Some name.now; takes_value = false }
-form_of (Value letter name) =
-    record { letter = letter; long_name = Some name.now; takes_value = true }
-form_of (ShortFlag letter) = record { letter = letter; long_name = None; takes_value = false }
+form_of (Flag letter name) = no_value letter (Some name.now)
+form_of (Value letter name form) = record {
+  letter = letter;
+  long_name = Some name.now;
+  takes_value = true;
+  wanted = form.now;
+}
+form_of (ShortFlag letter) = no_value letter None
 
 -- the test of a rule
 abbrev pub row_test : TestRow → Test
@@ -48,8 +51,9 @@ seen_row row = record {
   least = row.least;
   most = row.most;
   rules = map rule_of row.rules.now;
-  reads_input = row.reads_input;
+  input = row.input;
   is_for_lines = row.is_for_lines;
+  done = row.done;
   reporting = reporting_of row.reporting;
   statuses = row.statuses;
   wrapper_letters = row.wrapper_letters.now;

@@ -1,6 +1,6 @@
 -- What the row of a tool says of its words: its options with those of the folder, its operands and its
 -- rules.
-use Rattle.std.specs.Prelude.{ℕ, Bool, true, ◌||◌, ◌==◌, List, ◌∷◌, map, Some, codes}
+use Rattle.std.specs.Prelude.{ℕ, Bool, ◌||◌, ◌==◌, List, [], ◌∷◌, map}
 use Rattle.std.specs.Str.{byte}
 use Rattle.account_model.specs.declared.words_of.WordsOf.{WordsOf}
 use Rattle.account_model.specs.declared.words_of.WordsOf.TheVariants.{Command, Line}
@@ -22,8 +22,7 @@ root_letter tool = (row_of tool).root
 
 -- `-R DIR` or `--root DIR`
 abbrev pub root_form : Tool → OptionForm
-root_form tool =
-    record { letter = root_letter tool; long_name = Some (codes "root"); takes_value = true }
+root_form tool = record (with_value "R" "root" []) { letter = root_letter tool }
 
 -- whether the option of a letter gives the folder
 abbrev pub is_prefix : Tool → ℕ → Bool
@@ -31,7 +30,7 @@ is_prefix tool letter = letter == prefix_letter || letter == root_letter tool
 
 -- all options of a tool: each takes the folder
 abbrev pub option_forms : Tool → List OptionForm
-option_forms tool = with_value "P" "prefix" ∷ root_form tool ∷ own_options tool
+option_forms tool = with_value "P" "prefix" [] ∷ root_form tool ∷ own_options tool
 
 -- the options that such words may give: those of the folder are unknown in a line of a batch
 abbrev pub options_for : WordsOf → Tool → List OptionForm

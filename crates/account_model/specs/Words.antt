@@ -1,6 +1,6 @@
 -- What the words of a command, or of a line of a batch, ask for, and the first thing that is wrong
 -- with them: they are read as getopt_long(3) does, and then by the rules of the tool's manual page.
-use Rattle.std.specs.Prelude.{◌≡◌, ◌≢◌, ℕ, ◌+◌, ◌≤◌, true, false, not, ◌||◌, nat_le, nat_lt, if◌then◌else◌, Bool, List, [], ◌∷◌, length, filter, filter_map, find, position, Option, Some, None, option_map, Result, Ok, Err, bytes_eq}
+use Rattle.std.specs.Prelude.{◌≡◌, ◌≢◌, ℕ, ◌+◌, ◌≤◌, true, not, ◌||◌, nat_le, nat_lt, if◌then◌else◌, Bool, List, [], ◌∷◌, length, filter, filter_map, find, position, Option, Some, None, option_map, Result, Ok, Err, bytes_eq}
 use Rattle.std.specs.List.{enumerate_from}
 use Rattle.account_model.specs.declared.words_of.WordsOf.{WordsOf}
 use Rattle.account_model.specs.declared.words_of.WordsOf.TheVariants.{Command, Line}
@@ -10,7 +10,7 @@ use Rattle.account_model.specs.declared.word_fault.WordFault.{WordFault}
 use Rattle.account_model.specs.declared.word_fault.WordFault.TheVariants.{WordLimit, NoTool, UnknownTool, NoPrefix, EmptyPrefix, TooFew, Clash}
 use Rattle.account_model.specs.Text.{last_of}
 use Rattle.account_model.specs.Options.{Word}
-use Rattle.account_model.specs.Rows.{row_of}
+use Rattle.account_model.specs.Rows.{has_commands, row_of}
 use Rattle.account_model.specs.ToolOptions.{is_prefix, options_for, operands_of, most_operands}
 use Rattle.account_model.specs.declared.given.Given.{Given}
 use Rattle.account_model.specs.declared.plan_form.PlanForm.{PlanForm}
@@ -38,8 +38,7 @@ is_for_lines tool = (row_of tool).is_for_lines
 
 -- whether the tool carries out the lines of its input
 abbrev pub is_batch : Tool → Bool
-is_batch Batch = true
-is_batch tool = false
+is_batch tool = has_commands (row_of tool).input
 
 -- whether such words may name the tool
 abbrev pub may_name : WordsOf → Tool → Bool

@@ -33,6 +33,7 @@ mod settings;
 mod subid_laws;
 mod tool;
 mod tool_statuses;
+mod value_form;
 mod word_fault;
 mod word_laws;
 mod words_of;
@@ -63,13 +64,14 @@ pub use records::{
 };
 pub use refusal::{LineProblem, Refusal};
 pub use renaming_laws::lists_are_renamed;
-pub use row::{Reporting, ToolRow};
+pub use row::{Done, InputKind, Reporting, ToolRow};
 pub use settings::{IdSort, Key, Kind};
 pub use subid_laws::ranges_are_cut;
 pub use tool::Tool;
 pub use tool_statuses::{
     BAD_ARGUMENT, BAD_USAGE, GENERAL_FAILURE, PRIMARY_OF_USER, ToolStatuses, USED_ID, USED_NAME,
 };
+pub use value_form::{KEY_FORM, NAME_FORM};
 pub use word_fault::WordFault;
 pub use word_laws::{commands_have_one_reading, lines_read_back, words_have_one_reading};
 pub use words_of::WordsOf;

@@ -10,8 +10,8 @@ use OptionForm::{Flag, ShortFlag, Value};
 pub enum OptionForm {
     /// `-x` or `--name`.
     Flag(u8, &'static str),
-    /// `-x V` or `--name V`.
-    Value(u8, &'static str),
+    /// `-x V` or `--name V`, and the form of V as a refusal tells it.
+    Value(u8, &'static str, &'static [u8]),
     /// `-x`, which has no long name.
     ShortFlag(u8),
 }
@@ -50,7 +50,7 @@ impl OptionForm {
         ensures { result ≡ (form_of self).letter }
     {
         match self {
-            Flag(letter, _) | Value(letter, _) | ShortFlag(letter) => letter,
+            Flag(letter, _) | Value(letter, ..) | ShortFlag(letter) => letter,
         }
     }
 
@@ -61,12 +61,22 @@ impl OptionForm {
         matches!(self, Value(..))
     }
 
+    /// The form of the option's value, which is empty where it takes none.
+    pub fn wanted(self) -> &'static [u8]
+        ensures { result.now ≡ (form_of self).wanted }
+    {
+        match self {
+            Value(_, _, form) => form,
+            _ => b"",
+        }
+    }
+
     /// Whether the option has the long name.
     pub fn has_long_name(self, name: &[u8]) -> bool
         ensures { result ≡ has_long_name name.now (form_of self) }
     {
         match self {
-            Flag(_, long_name) | Value(_, long_name) => long_name.as_bytes() == name,
+            Flag(_, long_name) | Value(_, long_name, _) => long_name.as_bytes() == name,
             ShortFlag(_) => false,
         }
     }

@@ -5,7 +5,11 @@ use crate::tool_statuses::{
     CHAGE_STATUSES, CHECK_STATUSES, CHFN_STATUSES, COMMON_STATUSES, CONVERSION_STATUSES,
     GETSUBIDS_STATUSES, GPASSWD_STATUSES, GROUP_STATUSES, PASSWD_STATUSES, USER_STATUSES,
 };
-use crate::{Reporting, Rule, ToolRow};
+use crate::value_form::{
+    DATE_FORM, DAYS_FORM, FIELD_FORM, ID_FORM, KEY_FORM, NAME_FORM, PART_FORM, PATH_FORM,
+    RANGE_FORM,
+};
+use crate::{Done, InputKind, Reporting, Rule, ToolRow};
 use acct_text::Tab;
 
 // What most rows have: a tool that changes the tables, and has one operand.
@@ -16,8 +20,9 @@ const COMMON: ToolRow = ToolRow {
     least: 1,
     most: 1,
     rules: &[],
-    reads_input: false,
+    input: InputKind::Nothing,
     is_for_lines: true,
+    done: Done::Never,
     reporting: Reporting::Never,
     statuses: COMMON_STATUSES,
     wrapper_letters: b"",
@@ -62,23 +67,23 @@ const CHECK: ToolRow = ToolRow {
 pub(crate) static USERADD: ToolRow = ToolRow {
     name: "useradd",
     options: &[
-        Value(b'b', "base-dir"),
-        Value(b'c', "comment"),
-        Value(b'd', "home-dir"),
-        Value(b'e', "expiredate"),
-        Value(b'f', "inactive"),
+        Value(b'b', "base-dir", PATH_FORM),
+        Value(b'c', "comment", FIELD_FORM),
+        Value(b'd', "home-dir", PATH_FORM),
+        Value(b'e', "expiredate", DATE_FORM),
+        Value(b'f', "inactive", DAYS_FORM),
         Flag(b'F', "add-subids-for-system"),
-        Value(b'g', "gid"),
-        Value(b'G', "groups"),
-        Value(b'K', "key"),
+        Value(b'g', "gid", ID_FORM),
+        Value(b'G', "groups", NAME_FORM),
+        Value(b'K', "key", KEY_FORM),
         Flag(b'l', "no-log-init"),
         Flag(b'M', "no-create-home"),
         Flag(b'N', "no-user-group"),
         Flag(b'o', "non-unique"),
-        Value(b'p', "password"),
+        Value(b'p', "password", FIELD_FORM),
         Flag(b'r', "system"),
-        Value(b's', "shell"),
-        Value(b'u', "uid"),
+        Value(b's', "shell", PATH_FORM),
+        Value(b'u', "uid", ID_FORM),
         Flag(b'U', "user-group"),
     ],
     rules: &[
@@ -92,6 +97,7 @@ pub(crate) static USERADD: ToolRow = ToolRow {
         },
         O_NEEDS_U,
     ],
+    done: Done::UserStands,
     statuses: USER_STATUSES,
     wrapper_letters: b"km",
     wrapper_names: &["badname", "create-home", "skel"],
@@ -102,23 +108,23 @@ pub(crate) static USERMOD: ToolRow = ToolRow {
     name: "usermod",
     options: &[
         Flag(b'a', "append"),
-        Value(b'c', "comment"),
-        Value(b'd', "home"),
-        Value(b'e', "expiredate"),
-        Value(b'f', "inactive"),
-        Value(b'g', "gid"),
-        Value(b'G', "groups"),
-        Value(b'l', "login"),
+        Value(b'c', "comment", FIELD_FORM),
+        Value(b'd', "home", PATH_FORM),
+        Value(b'e', "expiredate", DATE_FORM),
+        Value(b'f', "inactive", DAYS_FORM),
+        Value(b'g', "gid", ID_FORM),
+        Value(b'G', "groups", NAME_FORM),
+        Value(b'l', "login", NAME_FORM),
         Flag(b'L', "lock"),
         Flag(b'o', "non-unique"),
-        Value(b'p', "password"),
-        Value(b's', "shell"),
-        Value(b'u', "uid"),
+        Value(b'p', "password", FIELD_FORM),
+        Value(b's', "shell", PATH_FORM),
+        Value(b'u', "uid", ID_FORM),
         Flag(b'U', "unlock"),
-        Value(b'v', "add-subuids"),
-        Value(b'V', "del-subuids"),
-        Value(b'w', "add-subgids"),
-        Value(b'W', "del-subgids"),
+        Value(b'v', "add-subuids", RANGE_FORM),
+        Value(b'V', "del-subuids", RANGE_FORM),
+        Value(b'w', "add-subgids", RANGE_FORM),
+        Value(b'W', "del-subgids", RANGE_FORM),
     ],
     rules: &[
         Rule {
@@ -141,6 +147,7 @@ pub(crate) static USERMOD: ToolRow = ToolRow {
 pub(crate) static USERDEL: ToolRow = ToolRow {
     name: "userdel",
     options: &[Flag(b'f', "force")],
+    done: Done::UserGone,
     statuses: USER_STATUSES,
     wrapper_letters: b"r",
     wrapper_names: &["remove"],
@@ -151,11 +158,11 @@ pub(crate) static USERDEL: ToolRow = ToolRow {
 pub(crate) static CHFN: ToolRow = ToolRow {
     name: "chfn",
     options: &[
-        Value(b'f', "full-name"),
-        Value(b'r', "room"),
-        Value(b'w', "work-phone"),
-        Value(b'h', "home-phone"),
-        Value(b'o', "other"),
+        Value(b'f', "full-name", PART_FORM),
+        Value(b'r', "room", PART_FORM),
+        Value(b'w', "work-phone", PART_FORM),
+        Value(b'h', "home-phone", PART_FORM),
+        Value(b'o', "other", FIELD_FORM),
     ],
     rules: &[WANTS_OPTION],
     is_for_lines: false,
@@ -165,7 +172,7 @@ pub(crate) static CHFN: ToolRow = ToolRow {
 
 pub(crate) static CHSH: ToolRow = ToolRow {
     name: "chsh",
-    options: &[Value(b's', "shell")],
+    options: &[Value(b's', "shell", PATH_FORM)],
     rules: &[Rule {
         text: "-s is needed",
         test: SomeOf(b"s"),
@@ -179,13 +186,14 @@ pub(crate) static GROUPADD: ToolRow = ToolRow {
     name: "groupadd",
     options: &[
         Flag(b'f', "force"),
-        Value(b'g', "gid"),
-        Value(b'K', "key"),
+        Value(b'g', "gid", ID_FORM),
+        Value(b'K', "key", KEY_FORM),
         Flag(b'o', "non-unique"),
-        Value(b'p', "password"),
+        Value(b'p', "password", FIELD_FORM),
         Flag(b'r', "system"),
     ],
     rules: &[O_NEEDS_G],
+    done: Done::GroupStands,
     statuses: GROUP_STATUSES,
     wrapper_letters: b"U",
     wrapper_names: &["users"],
@@ -195,10 +203,10 @@ pub(crate) static GROUPADD: ToolRow = ToolRow {
 pub(crate) static GROUPMOD: ToolRow = ToolRow {
     name: "groupmod",
     options: &[
-        Value(b'g', "gid"),
-        Value(b'n', "new-name"),
+        Value(b'g', "gid", ID_FORM),
+        Value(b'n', "new-name", NAME_FORM),
         Flag(b'o', "non-unique"),
-        Value(b'p', "password"),
+        Value(b'p', "password", FIELD_FORM),
     ],
     rules: &[
         O_NEEDS_G,
@@ -216,6 +224,7 @@ pub(crate) static GROUPMOD: ToolRow = ToolRow {
 pub(crate) static GROUPDEL: ToolRow = ToolRow {
     name: "groupdel",
     options: &[Flag(b'f', "force")],
+    done: Done::GroupGone,
     statuses: GROUP_STATUSES,
     ..COMMON
 };
@@ -224,10 +233,10 @@ pub(crate) static GPASSWD: ToolRow = ToolRow {
     name: "gpasswd",
     root: b'Q',
     options: &[
-        Value(b'a', "add"),
-        Value(b'd', "delete"),
-        Value(b'A', "administrators"),
-        Value(b'M', "members"),
+        Value(b'a', "add", NAME_FORM),
+        Value(b'd', "delete", NAME_FORM),
+        Value(b'A', "administrators", NAME_FORM),
+        Value(b'M', "members", NAME_FORM),
         Flag(b'r', "remove-password"),
         Flag(b'R', "restrict"),
     ],
@@ -238,6 +247,7 @@ pub(crate) static GPASSWD: ToolRow = ToolRow {
             test: Alone(b"adrR"),
         },
     ],
+    done: Done::MemberGone,
     statuses: GPASSWD_STATUSES,
     wrapper_names: &["delete-password"],
     ..COMMON
@@ -246,9 +256,9 @@ pub(crate) static GPASSWD: ToolRow = ToolRow {
 pub(crate) static GROUPMEMS: ToolRow = ToolRow {
     name: "groupmems",
     options: &[
-        Value(b'a', "add"),
-        Value(b'd', "delete"),
-        Value(b'g', "group"),
+        Value(b'a', "add", NAME_FORM),
+        Value(b'd', "delete", NAME_FORM),
+        Value(b'g', "group", NAME_FORM),
         Flag(b'l', "list"),
         Flag(b'p', "purge"),
     ],
@@ -273,13 +283,13 @@ pub(crate) static GROUPMEMS: ToolRow = ToolRow {
 pub(crate) static CHAGE: ToolRow = ToolRow {
     name: "chage",
     options: &[
-        Value(b'd', "lastday"),
-        Value(b'E', "expiredate"),
-        Value(b'I', "inactive"),
+        Value(b'd', "lastday", DATE_FORM),
+        Value(b'E', "expiredate", DATE_FORM),
+        Value(b'I', "inactive", DAYS_FORM),
         Flag(b'l', "list"),
-        Value(b'm', "mindays"),
-        Value(b'M', "maxdays"),
-        Value(b'W', "warndays"),
+        Value(b'm', "mindays", DAYS_FORM),
+        Value(b'M', "maxdays", DAYS_FORM),
+        Value(b'W', "warndays", DAYS_FORM),
     ],
     rules: &[
         WANTS_OPTION,
@@ -304,7 +314,7 @@ const SETS_HASHES: ToolRow = ToolRow {
         text: "-e is needed",
         test: SomeOf(b"e"),
     }],
-    reads_input: true,
+    input: InputKind::Hashes,
     is_for_lines: false,
     wrapper_letters: b"c",
     wrapper_names: &["crypt-method"],
@@ -326,13 +336,13 @@ pub(crate) static PASSWD: ToolRow = ToolRow {
     options: &[
         Flag(b'd', "delete"),
         Flag(b'e', "expire"),
-        Value(b'i', "inactive"),
+        Value(b'i', "inactive", DAYS_FORM),
         Flag(b'l', "lock"),
-        Value(b'n', "mindays"),
+        Value(b'n', "mindays", DAYS_FORM),
         Flag(b'S', "status"),
         Flag(b'u', "unlock"),
-        Value(b'w', "warndays"),
-        Value(b'x', "maxdays"),
+        Value(b'w', "warndays", DAYS_FORM),
+        Value(b'x', "maxdays", DAYS_FORM),
     ],
     rules: &[
         WANTS_OPTION,
@@ -417,7 +427,7 @@ pub(crate) static BATCH: ToolRow = ToolRow {
     name: "batch",
     options: &[Flag(b'e', "ensure")],
     least: 0,
-    reads_input: true,
+    input: InputKind::Commands,
     is_for_lines: false,
     ..COMMON
 };

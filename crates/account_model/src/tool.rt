@@ -1,10 +1,12 @@
 //! The tools of the suite.
-ghost use Rattle.std.specs.Prelude.{◌≡◌};
+ghost use Rattle.std.specs.Prelude.{◌≡◌, ◌==◌, find, option_map};
 ghost use Rattle.account_model.specs.Rows.{row_of};
-ghost use Rattle.account_model.specs.SeenRows.{seen_row};
+ghost use Rattle.account_model.specs.SeenRows.{form_of, seen_row};
+ghost use Rattle.account_model.specs.Spelling.{form_of_letter};
+ghost use Rattle.account_model.specs.ToolOptions.{own_options};
 ghost use Rattle.account_model.specs.Words.{tool_name, tools, tool_named};
 
-use crate::{ToolRow, rows};
+use crate::{OptionForm, ToolRow, rows};
 
 /// A tool, which word 0 of a command names.
 #[derive(Clone, Copy, Debug, PartialEq, Eq, Drop)]
@@ -123,6 +125,13 @@ impl Tool {
         self.row().name
     }
 
+    /// The first option of the tool with the letter, those of the folder not among them.
+    pub fn option(self, letter: u8) -> Option<OptionForm>
+        ensures { option_map form_of result ≡ form_of_letter (own_options self) letter }
+    {
+        find_letter(self.row().options, letter)
+    }
+
     /// The tool that a word names, and none where it names no tool.
     pub fn named(word: &[u8]) -> Option<Tool>
         ensures { result ≡ tool_named word.now }
@@ -132,4 +141,10 @@ impl Tool {
             .copied()
             .find(|tool| tool.name().as_bytes() == word)
     }
+}
+
+fn find_letter(forms: &[OptionForm], letter: u8) -> Option<OptionForm>
+    ensures { result ≡ find (λ form. (form_of form).letter == letter) forms.now }
+{
+    forms.iter().copied().find(|form| form.letter() == letter)
 }

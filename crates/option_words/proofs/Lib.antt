@@ -1,4 +1,3 @@
-pub mod TableLemmas
 pub mod CutLemmas
 pub mod ReadingLemmas
 pub mod BatchLemmas

@@ -8,7 +8,7 @@ use OptionForm::Value;
 use account_model::{OptionForm, Tool, WordsOf};
 
 // The folder whose `etc` is worked on, which each tool of a command takes.
-const PREFIX: OptionForm = Value(PREFIX_LETTER, "prefix");
+const PREFIX: OptionForm = Value(PREFIX_LETTER, "prefix", b"");
 
 const PREFIX_LETTER: u8 = b'P';
 
@@ -19,15 +19,9 @@ pub(crate) fn form_of_letter(whose: WordsOf, tool: Tool, letter: u8) -> Option<O
     let row = tool.row();
     match whose {
         WordsOf::Command if letter == PREFIX_LETTER => Some(PREFIX),
-        WordsOf::Command if letter == row.root => Some(Value(row.root, "root")),
-        _ => find_letter(row.options, letter),
+        WordsOf::Command if letter == row.root => Some(Value(row.root, "root", b"")),
+        _ => tool.option(letter),
     }
-}
-
-fn find_letter(forms: &[OptionForm], letter: u8) -> Option<OptionForm>
-    ensures { result ≡ find (λ form. (form_of form).letter == letter) forms.now }
-{
-    forms.iter().copied().find(|form| form.letter() == letter)
 }
 
 /// The option of a tool with a long name, which is written out. Those of the folder are a command's.
@@ -35,7 +29,7 @@ pub(crate) fn form_of_name(whose: WordsOf, tool: Tool, name: &[u8]) -> Option<Op
     ensures { option_map form_of result ≡ by_name (options_for whose tool) name.now }
 {
     let row = tool.row();
-    let root = Value(row.root, "root");
+    let root = Value(row.root, "root", b"");
     match whose {
         WordsOf::Command if PREFIX.has_long_name(name) => Some(PREFIX),
         WordsOf::Command if root.has_long_name(name) => Some(root),

@@ -11,7 +11,7 @@ use Rattle.acct_outside.specs.Faults.{Faults, HasRisen, LastFailed, NoneFailed}
 use Rattle.acct_outside.specs.Streams.{ClockMoment, SourceMoment, WhereBytesTold}
 use Rattle.account_model.specs.declared.tool.Tool.{Tool}
 use Rattle.account_model.specs.BatchLines.{FaultyLine, first_faulty}
-use Rattle.account_model.specs.Rows.{row_of}
+use Rattle.account_model.specs.Rows.{is_read, row_of}
 use Rattle.account_model.specs.Words.{is_batch}
 use Rattle.suite_answers.specs.declared.cause.Which.TheVariants.{Input}
 use Rattle.suite_answers.specs.declared.cause.Cause.{Cause}
@@ -24,7 +24,7 @@ use Rattle.suite_course.specs.declared.supplies.Lack.TheVariants.{Supply, Line}
 
 -- the tool reads an input: the pairs of chpasswd(8) and chgpasswd(8), the lines of a batch
 abbrev pub reads_input : Tool → Bool
-reads_input tool = (row_of tool).reads_input
+reads_input tool = is_read (row_of tool).input
 
 -- what a source has left where it tells, and its faults; the day that a clock last gave, and its faults
 pub record Supplies : Type 0 where

@@ -109,7 +109,7 @@ fn input_of<S: Source>(alloc: Global, tool: Tool, source: &mut S) -> Result<Byte
 fn reads_input(tool: Tool) -> bool
     ensures { result ≡ reads_input tool }
 {
-    tool.row().reads_input
+    tool.row().input.is_read()
 }
 
 // Takes all that the source has left.

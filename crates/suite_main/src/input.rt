@@ -25,8 +25,8 @@ pub(crate) fn named_file(alloc: Global, words: &[Word]) -> Result<Option<Bytes>,
 fn operand_file(alloc: Global, tool: Tool, operands: &Names) -> Result<Option<Bytes>, AllocError>
     ensures { IfOk result (λ file. file ≡ operand_file tool operands.now) }
 {
-    match (tool, operands.as_slice().split_first()) {
-        (Tool::Batch, Some((file, _))) if file.as_slice() != b"-".as_slice() => {
+    match operands.as_slice().first() {
+        Some(file) if tool.row().input.has_commands() && file.as_slice() != b"-".as_slice() => {
             Ok(Some(Bytes::of(alloc, file.as_slice())?))
         }
         _ => Ok(None),

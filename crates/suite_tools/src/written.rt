@@ -11,7 +11,7 @@ ghost use Rattle.suite_tools.specs.Writing.{IsWrittenBehind, with_output};
 
 use crate::carry::carry_out;
 use crate::change::decide_change;
-use account_model::{Refusal, Tool};
+use account_model::{Done, Refusal, Tool};
 use acct_text::{Bytes, Files};
 use carried_tables::{CarriedTables, TouchedTables};
 use command_values::Asked;
@@ -119,11 +119,11 @@ fn is_done(tool: Tool, refusal: &Refusal) -> bool
     ensures { result ≡ is_done tool refusal.now }
 {
     matches!(
-        (tool, refusal),
-        (Tool::Useradd, Refusal::UserExists(_))
-            | (Tool::Groupadd, Refusal::GroupExists(_))
-            | (Tool::Userdel, Refusal::NoUser(_))
-            | (Tool::Groupdel, Refusal::NoGroup(_))
-            | (Tool::Gpasswd, Refusal::NotMember(..))
+        (tool.row().done, refusal),
+        (Done::UserStands, Refusal::UserExists(_))
+            | (Done::GroupStands, Refusal::GroupExists(_))
+            | (Done::UserGone, Refusal::NoUser(_))
+            | (Done::GroupGone, Refusal::NoGroup(_))
+            | (Done::MemberGone, Refusal::NotMember(..))
     )
 }

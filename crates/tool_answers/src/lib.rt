@@ -13,7 +13,6 @@ mod refusal;
 mod rule_text;
 mod status;
 mod tool_fault;
-mod wanted_form;
 mod word_fault;
 mod wrapper_hint;
 
@@ -26,7 +25,6 @@ pub use refusal::refusal_text;
 use rule_text::rule_text;
 pub use status::{MEMORY_STATUS, file_status, lock_status, refusal_status, update_status};
 pub use tool_fault::ToolFault;
-use wanted_form::{KEY_FORM, NAME_FORM, wanted_form};
 use word_fault::word_fault_text;
 pub use word_fault::{faulty_tool, syntax_status, word_fault_message, word_fault_status};
 use wrapper_hint::wrapper_hint;

@@ -1,11 +1,10 @@
 // The text and the status of a refusal. The texts are this suite's own, the statuses are those of
 // the "EXIT VALUES" of the manual pages.
 ghost use Rattle.std.specs.Prelude.{◌≡◌, ◌++◌, ◌∷◌, codes, decimal, IfOk};
-ghost use Rattle.account_model.specs.Messages.{but_wanted, key_form, line_problem_text, name_form, refusal_text, wanted_form};
+ghost use Rattle.account_model.specs.Messages.{but_wanted, line_problem_text, refusal_text, wanted_form};
 ghost use Rattle.acct_text.specs.Tables.{table_name};
 
-use crate::{KEY_FORM, NAME_FORM, wanted_form};
-use account_model::{LineProblem, Refusal, Tool};
+use account_model::{KEY_FORM, LineProblem, NAME_FORM, Refusal, Tool};
 use acct_text::Piece::{Number, Text};
 use acct_text::{Bytes, Tab, pair, triple};
 use std::alloc::{AllocError, Global};
@@ -68,6 +67,16 @@ fn bad_value(alloc: Global, tool: Tool, letter: u8, value: &[u8]) -> Result<Byte
     text.push(wanted_form(tool, letter))?;
     text.push(b")")?;
     Ok(text)
+}
+
+// The form that the tool's option with the letter says of its value; empty where it says none.
+fn wanted_form(tool: Tool, letter: u8) -> &'static [u8]
+    ensures { result.now ≡ wanted_form tool letter }
+{
+    match tool.option(letter) {
+        Some(option) => option.wanted(),
+        None => b"",
+    }
 }
 
 // The ID of this sort is in use.

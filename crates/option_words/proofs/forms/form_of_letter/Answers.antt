@@ -1,20 +1,13 @@
-use Rattle.std.proofs.Common.{◌==◌, ◌∙◌, sym, ap, find, option_map, Bool}
+use Rattle.std.proofs.Common.{◌∙◌, sym, ap}
 use Rattle.std.proofs.lemmas.Bool.{ne_eqb}
-use Rattle.account_model.specs.Options.{OptionForm}
 use Rattle.account_model.specs.Rows.{ToolRow}
-use Rattle.account_model.specs.SeenRows.{form_of}
 use Rattle.account_model.specs.ToolOptions.{root_letter}
-use Rattle.option_words.proofs.TableLemmas.{find-map}
 use Rattle.option_words.proofs.forms.form_of_letter.Goals.{in_default-via-in-Command-2+else-letter-row, in_default-via-in_default}
 use Rattle.option_words.proofs.forms.form_of_letter.Goals as goal
 
 pub returns-in_default : goal.returns-in_default
 returns-in_default c =
-    let has_letter : OptionForm → Bool = λ form. form.letter == c.args.letter in
-    let own =
-    ap (option_map form_of) c.find_letter.ensures
-    ∙ sym (find-map form_of has_letter c.row-row.result.now.options.now)
-    ∙ ap (λ (row : ToolRow). find has_letter row.options) c.row-row.ensures in
+    let own = c.option.ensures in
     let root = ap (λ (row : ToolRow). row.root) c.row-row.ensures in
     elim c.in_default.branch [
       | in_default-via-in-Command-2+else-letter-row w ↦

@@ -3,7 +3,7 @@ use Rattle.account_model.specs.Options.{OptionForm}
 use Rattle.account_model.specs.Rows.{ToolRow}
 use Rattle.account_model.specs.SeenRows.{form_of}
 use Rattle.account_model.specs.Spelling.{has_long_name}
-use Rattle.option_words.proofs.TableLemmas.{find-map}
+use Rattle.account_model.proofs.TableLemmas.{find-map}
 use Rattle.option_words.proofs.forms.form_of_name.Goals.{in_default-via-in-Command-2+else-has_long_name-2, in_default-via-in_default}
 use Rattle.option_words.proofs.forms.form_of_name.Goals as goal
 

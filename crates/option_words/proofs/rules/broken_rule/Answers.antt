@@ -2,7 +2,7 @@ use Rattle.std.proofs.Common.{◌+◌, ◌∙◌, sym, ap, not, position, option
 use Rattle.account_model.specs.Options.{Rule}
 use Rattle.account_model.specs.Rows.{ToolRow}
 use Rattle.account_model.specs.SeenRows.{rule_of}
-use Rattle.option_words.proofs.TableLemmas.{position-map}
+use Rattle.account_model.proofs.TableLemmas.{position-map}
 use Rattle.option_words.proofs.rules.broken_rule.Goals as goal
 
 pub returns-in_err-place : goal.returns-in_err-place
