@@ -40,26 +40,61 @@ not-back test [] ys none = none
 not-back test (x ∷ xs) ys none =
     not-back test xs ys (or_parts (test x) (list_any test (xs ++ ys)) none).1
 
--- so it is of the names of a list
-lists-front :
-    (names one other : List (List ℕ))
-    → lists_any names (one ++ other) ≡ false
-    → lists_any names one ≡ false
-lists-front [] one other none = refl
-lists-front (name ∷ names) one other none =
-    let parts = or_parts (is_listed name (one ++ other)) (lists_any names (one ++ other)) none
-    in or_from (is_listed name one) (lists_any names one)
-    (not-front (bytes_eq name) one other parts.0) (lists-front names one other parts.1)
+-- what one list has, another has too
+abbrev IsIn : {X : Type 0} → List X → List X → Type 0
+IsIn {X = X} xs ys = (test : X → Bool) → list_any test ys ≡ false → list_any test xs ≡ false
 
-lists-back :
+-- so it is of the names of a list
+lists-in :
     (names one other : List (List ℕ))
-    → lists_any names (one ++ other) ≡ false
+    → IsIn one other
     → lists_any names other ≡ false
-lists-back [] one other none = refl
-lists-back (name ∷ names) one other none =
-    let parts = or_parts (is_listed name (one ++ other)) (lists_any names (one ++ other)) none
-    in or_from (is_listed name other) (lists_any names other)
-    (not-back (bytes_eq name) one other parts.0) (lists-back names one other parts.1)
+    → lists_any names one ≡ false
+lists-in [] one other is none = refl
+lists-in (name ∷ names) one other is none =
+    let parts = or_parts (is_listed name other) (lists_any names other) none
+    in or_from (is_listed name one) (lists_any names one)
+    (is (bytes_eq name) parts.0) (lists-in names one other is parts.1)
+
+-- what one command names, another names too
+record IsNamedBy (one other : Named) : Type 0 where
+  users : IsIn one.users other.users
+  gids : IsIn one.gids other.gids
+  groups : IsIn one.groups other.groups
+  owners : IsIn one.owners other.owners
+  all_users : other.all_users ≡ false → one.all_users ≡ false
+  all_groups : other.all_groups ≡ false → one.all_groups ≡ false
+
+-- then lines that the other doesn't name the one doesn't name
+named-within : (one other : Named) → IsNamedBy one other → NamesWithin one other
+named-within one other is = record {
+  passwd = λ r none. let parts = passwd-parts other r none in
+      or_from (is_listed r.name one.users)
+      (list_any (λ gid. r.gid == gid) one.gids || one.all_users)
+      (is.users (bytes_eq r.name) parts.0)
+      (or_from (list_any (λ gid. r.gid == gid) one.gids) one.all_users
+      (is.gids (λ gid. r.gid == gid) parts.1) (is.all_users parts.2));
+  shadow = λ r none. let parts = shadow-parts other r none in
+      or_from (is_listed r.name one.users) one.all_users
+      (is.users (bytes_eq r.name) parts.0) (is.all_users parts.1);
+  group = λ r none. let parts = group-parts other r none in
+      or_from (is_listed r.name one.groups) (lists_any r.members one.users || one.all_groups)
+      (is.groups (bytes_eq r.name) parts.0)
+      (or_from (lists_any r.members one.users) one.all_groups
+      (lists-in r.members one.users other.users is.users parts.1) (is.all_groups parts.2));
+  gshadow = λ r none. let parts = gshadow-parts other r none in
+      or_from (is_listed r.name one.groups)
+      (lists_any r.members one.users
+      || (lists_any r.administrators one.users || one.all_groups))
+      (is.groups (bytes_eq r.name) parts.0)
+      (or_from (lists_any r.members one.users)
+      (lists_any r.administrators one.users || one.all_groups)
+      (lists-in r.members one.users other.users is.users parts.1)
+      (or_from (lists_any r.administrators one.users) one.all_groups
+      (lists-in r.administrators one.users other.users is.users parts.2)
+      (is.all_groups parts.3)));
+  subid = λ r. is.owners (bytes_eq r.owner);
+}
 
 module _ (one other : Named) where
   -- what two commands name
@@ -67,72 +102,25 @@ module _ (one other : Named) where
   both = named_by_both one other
 
   -- both name what the first does
-  pub front-within : NamesWithin one both
+  front-within : IsNamedBy one both
   front-within = record {
-    passwd = λ r none. let parts = passwd-parts both r none in
-        or_from (is_listed r.name one.users)
-        (list_any (λ gid. r.gid == gid) one.gids || one.all_users)
-        (not-front (bytes_eq r.name) one.users other.users parts.0)
-        (or_from (list_any (λ gid. r.gid == gid) one.gids) one.all_users
-        (not-front (λ gid. r.gid == gid) one.gids other.gids parts.1)
-        (or_parts one.all_users other.all_users parts.2).0);
-    shadow = λ r none. let parts = shadow-parts both r none in
-        or_from (is_listed r.name one.users) one.all_users
-        (not-front (bytes_eq r.name) one.users other.users parts.0)
-        (or_parts one.all_users other.all_users parts.1).0;
-    group = λ r none. let parts = group-parts both r none in
-        or_from (is_listed r.name one.groups) (lists_any r.members one.users || one.all_groups)
-        (not-front (bytes_eq r.name) one.groups other.groups parts.0)
-        (or_from (lists_any r.members one.users) one.all_groups
-        (lists-front r.members one.users other.users parts.1)
-        (or_parts one.all_groups other.all_groups parts.2).0);
-    gshadow = λ r none. let parts = gshadow-parts both r none in
-        or_from (is_listed r.name one.groups)
-        (lists_any r.members one.users
-        || (lists_any r.administrators one.users || one.all_groups))
-        (not-front (bytes_eq r.name) one.groups other.groups parts.0)
-        (or_from (lists_any r.members one.users)
-        (lists_any r.administrators one.users || one.all_groups)
-        (lists-front r.members one.users other.users parts.1)
-        (or_from (lists_any r.administrators one.users) one.all_groups
-        (lists-front r.administrators one.users other.users parts.2)
-        (or_parts one.all_groups other.all_groups parts.3).0));
-    subid = λ r. not-front (bytes_eq r.owner) one.owners other.owners;
+    users = λ test. not-front test one.users other.users;
+    gids = λ test. not-front test one.gids other.gids;
+    groups = λ test. not-front test one.groups other.groups;
+    owners = λ test. not-front test one.owners other.owners;
+    all_users = λ none. (or_parts one.all_users other.all_users none).0;
+    all_groups = λ none. (or_parts one.all_groups other.all_groups none).0;
   }
 
   -- and what the second does
-  pub back-within : NamesWithin other both
+  back-within : IsNamedBy other both
   back-within = record {
-    passwd = λ r none. let parts = passwd-parts both r none in
-        or_from (is_listed r.name other.users)
-        (list_any (λ gid. r.gid == gid) other.gids || other.all_users)
-        (not-back (bytes_eq r.name) one.users other.users parts.0)
-        (or_from (list_any (λ gid. r.gid == gid) other.gids) other.all_users
-        (not-back (λ gid. r.gid == gid) one.gids other.gids parts.1)
-        (or_parts one.all_users other.all_users parts.2).1);
-    shadow = λ r none. let parts = shadow-parts both r none in
-        or_from (is_listed r.name other.users) other.all_users
-        (not-back (bytes_eq r.name) one.users other.users parts.0)
-        (or_parts one.all_users other.all_users parts.1).1;
-    group = λ r none. let parts = group-parts both r none in
-        or_from (is_listed r.name other.groups)
-        (lists_any r.members other.users || other.all_groups)
-        (not-back (bytes_eq r.name) one.groups other.groups parts.0)
-        (or_from (lists_any r.members other.users) other.all_groups
-        (lists-back r.members one.users other.users parts.1)
-        (or_parts one.all_groups other.all_groups parts.2).1);
-    gshadow = λ r none. let parts = gshadow-parts both r none in
-        or_from (is_listed r.name other.groups)
-        (lists_any r.members other.users
-        || (lists_any r.administrators other.users || other.all_groups))
-        (not-back (bytes_eq r.name) one.groups other.groups parts.0)
-        (or_from (lists_any r.members other.users)
-        (lists_any r.administrators other.users || other.all_groups)
-        (lists-back r.members one.users other.users parts.1)
-        (or_from (lists_any r.administrators other.users) other.all_groups
-        (lists-back r.administrators one.users other.users parts.2)
-        (or_parts one.all_groups other.all_groups parts.3).1));
-    subid = λ r. not-back (bytes_eq r.owner) one.owners other.owners;
+    users = λ test. not-back test one.users other.users;
+    gids = λ test. not-back test one.gids other.gids;
+    groups = λ test. not-back test one.groups other.groups;
+    owners = λ test. not-back test one.owners other.owners;
+    all_users = λ none. (or_parts one.all_users other.all_users none).1;
+    all_groups = λ none. (or_parts one.all_groups other.all_groups none).1;
   }
 
   -- edits of which each part spares what one of them doesn't name spare what neither does
@@ -144,8 +132,9 @@ module _ (one other : Named) where
       → SparesUnnamed other_sorts other second
       → SparesUnnamed sorts both (followed_by first second)
   both-spare first second asked other_asked spares also =
-      (spares-composed both).both first second (wider-spares first asked front-within spares)
-      (wider-spares second other_asked back-within also)
+      (spares-composed both).both first second
+      (wider-spares first asked (named-within one both front-within) spares)
+      (wider-spares second other_asked (named-within other both back-within) also)
 
 -- ---- Commands
 

@@ -85,56 +85,37 @@ passwd-alone edits files = λ i. record {
   subgid = table-stays subid_format files.subgid i;
 }
 
--- touch names of passwd alone
-single-passwd :
+-- the first of options is the only one
+first-alone :
+    {X : Type 0} (o : Option X) (rest : List (Option X))
+    → first_some rest ≡ None
+    → first_some (o ∷ rest) ≡ o
+first-alone None rest none = none
+first-alone (Some x) rest none = refl
+
+-- edits of passwd alone meet multiple entries there alone
+passwd-multiple :
     (edits : List (Edit PasswdRecord)) (files : Files)
-    → first_multiple passwd_format edits (passwd_records files) ≡ None
-    → multiple_entries (record no_edits { passwd = edits }) files ≡ None
-single-passwd edits files single =
+    → multiple_entries (record no_edits { passwd = edits }) files
+    ≡ multiple_in Passwd passwd_format edits (passwd_records files)
+passwd-multiple edits files =
     let shadow = none-touched shadow_format (shadow_records files)
     in let group = none-touched group_format (group_records files)
     in let gshadow = none-touched gshadow_format (gshadow_records files)
-    in rw (multiple_entries, single, shadow, group, gshadow) refl
+    in rw (multiple_entries, shadow, group, gshadow)
+    (first-alone (multiple_in Passwd passwd_format edits (passwd_records files)) _ refl)
 
--- both ways
-single-in-passwd :
-    (edits : List (Edit PasswdRecord)) (files : Files)
-    → multiple_entries (record no_edits { passwd = edits }) files ≡ None
-    → first_multiple passwd_format edits (passwd_records files) ≡ None
-single-in-passwd edits files single =
-    unmapped (λ name. Multiple Passwd name)
-    (first_multiple passwd_format edits (passwd_records files))
-    (first-none (multiple_in Passwd passwd_format edits (passwd_records files))
-    (multiple_in Shadow shadow_format [] (shadow_records files)
-    ∷ multiple_in Group group_format [] (group_records files)
-    ∷ multiple_in Gshadow gshadow_format [] (gshadow_records files) ∷ []) single).0
-
--- touch names of shadow alone
-single-shadow :
+-- and those of shadow alone there
+shadow-multiple :
     (edits : List (Edit ShadowRecord)) (files : Files)
-    → first_multiple shadow_format edits (shadow_records files) ≡ None
-    → multiple_entries (record no_edits { shadow = edits }) files ≡ None
-single-shadow edits files single =
+    → multiple_entries (record no_edits { shadow = edits }) files
+    ≡ multiple_in Shadow shadow_format edits (shadow_records files)
+shadow-multiple edits files =
     let passwd = none-touched passwd_format (passwd_records files)
     in let group = none-touched group_format (group_records files)
     in let gshadow = none-touched gshadow_format (gshadow_records files)
-    in rw (multiple_entries, passwd, single, group, gshadow) refl
-
--- and edits that touch none touch none in shadow
-single-in-shadow :
-    (edits : List (Edit ShadowRecord)) (files : Files)
-    → multiple_entries (record no_edits { shadow = edits }) files ≡ None
-    → first_multiple shadow_format edits (shadow_records files) ≡ None
-single-in-shadow edits files single =
-    unmapped (λ name. Multiple Shadow name)
-    (first_multiple shadow_format edits (shadow_records files))
-    (first-none (multiple_in Shadow shadow_format edits (shadow_records files))
-    (multiple_in Group group_format [] (group_records files)
-    ∷ multiple_in Gshadow gshadow_format [] (gshadow_records files) ∷ [])
-    (first-none (multiple_in Passwd passwd_format [] (passwd_records files))
-    (multiple_in Shadow shadow_format edits (shadow_records files)
-    ∷ multiple_in Group group_format [] (group_records files)
-    ∷ multiple_in Gshadow gshadow_format [] (gshadow_records files) ∷ []) single).1).0
+    in rw (multiple_entries, passwd, group, gshadow)
+    (first-alone (multiple_in Shadow shadow_format edits (shadow_records files)) _ refl)
 
 module _ (tool : Tool) (prefix user : List ℕ) (files : Files) where
   -- both commands
@@ -207,7 +188,8 @@ module _ (tool : Tool) (prefix user : List ℕ) (files : Files) where
       in let unlocked = subst (λ h. begins_with exclamation h ≡ false) hash is.unlocked
       in let single = subst (λ (edits : Script). multiple_entries edits old ≡ None) script
       is_made.single
-      in let shadow_single = single-in-shadow (shadow_edits locked_hash) old single
+      in let shadow_single = unmapped (λ name. Multiple Shadow name) _
+      (sym (shadow-multiple (shadow_edits locked_hash) old) ∙ single)
       in let written = (subst IsWrittenScript script
       (passwd-written (flag_alone tool prefix (codes "l") user) old)).shadow.0
       in let middle : Files = record files {
@@ -232,8 +214,8 @@ module _ (tool : Tool) (prefix user : List ℕ) (files : Files) where
       (record one { hash = locked_hash one.hash }) locked_one))
       (not-mark one.hash unlocked (subst (λ h. is_empty h ≡ false) hash is.some)))
       (subst (λ (edits : Script). multiple_entries edits middle ≡ None) (sym back_script)
-      (single-shadow (shadow_edits unlocked_hash) middle
-      (unlock-single shadow_format shadow-tells refl (λ r. r.hash)
+      (shadow-multiple (shadow_edits unlocked_hash) middle
+      ∙ ap (option_map (λ name. Multiple Shadow name)) (unlock-single shadow_format shadow-tells refl (λ r. r.hash)
       (λ h r. record r { hash = h }) (λ h r. refl) (λ h r. refl) (λ h o r. refl) (λ r. refl)
       user bytes one found unlocked shadow_single is.shadow_lines written)))
       (ap (λ edits. files_after edits middle) back_script
@@ -263,7 +245,8 @@ module _ (tool : Tool) (prefix user : List ℕ) (files : Files) where
       in let hash : hash_of user old ≡ one.password =
       ap (λ (o : Option PasswdRecord). unwrap_or (option_map (λ r. r.password) o) []) found
       in let unlocked = subst (λ h. begins_with exclamation h ≡ false) hash is.unlocked
-      in let single = single-in-passwd (passwd_edits locked_hash) old is_made.single
+      in let single = unmapped (λ name. Multiple Passwd name) _
+      (sym (passwd-multiple (passwd_edits locked_hash) old) ∙ is_made.single)
       in let written = (passwd-written (flag_alone tool prefix (codes "l") user) old).passwd.0
       in let middle : Files = record files {
         passwd = table_after passwd_format (passwd_edits locked_hash) (Some bytes);
@@ -281,8 +264,8 @@ module _ (tool : Tool) (prefix user : List ℕ) (files : Files) where
       (ap (λ (o : Option PasswdRecord). is_some o) locked_one)
       (subst (λ h. bytes_eq h locked ≡ false) (sym locked_hash_is)
       (not-mark one.password unlocked (subst (λ h. is_empty h ≡ false) hash is.some)))
-      (single-passwd (passwd_edits unlocked_hash) middle
-      (unlock-single passwd_format passwd-tells refl (λ r. r.password)
+      (passwd-multiple (passwd_edits unlocked_hash) middle
+      ∙ ap (option_map (λ name. Multiple Passwd name)) (unlock-single passwd_format passwd-tells refl (λ r. r.password)
       (λ h r. record r { password = h }) (λ h r. refl) (λ h r. refl) (λ h o r. refl) (λ r. refl)
       user bytes one found unlocked single is.passwd_lines written))
       (passwd-alone (passwd_edits unlocked_hash) middle
