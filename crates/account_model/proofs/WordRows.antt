@@ -1,6 +1,6 @@
 -- Lists of words and what they ask for, each decided by computing.
 use Prim.Native.String.{String}
-use Rattle.std.specs.Prelude.{◌≡◌, ◌==◌, List, [], ◌∷◌, replicate, Some, None, Result, Ok, codes, refl}
+use Rattle.std.specs.Prelude.{◌≡◌, ◌==◌, List, [], ◌∷◌, map, replicate, Some, None, Result, Ok, codes, refl}
 use Rattle.std.specs.List.{slice_split}
 use Rattle.std.specs.Str.{byte}
 use Rattle.account_model.specs.declared.tool.Tool.{Tool}
@@ -13,19 +13,19 @@ use Rattle.account_model.specs.Request.{Request}
 use Rattle.account_model.specs.Words.{request_of, fault}
 
 -- the words of a text without quotes, cut at blanks as a shell does
-abbrev words_of : String → List Word
+abbrev pub words_of : String → List Word
 words_of text = slice_split (λ c. c == 32) (codes text)
 
 -- an option that is a flag
-abbrev flagged : String → Given
+abbrev pub flagged : String → Given
 flagged letter = record { letter = byte letter; value = None }
 
 -- an option with its value
-abbrev valued : String → String → Given
+abbrev pub valued : String → String → Given
 valued letter value = record { letter = byte letter; value = Some (codes value) }
 
 -- a request with the prefix R
-abbrev request : Tool → List Given → List Word → Result Request WordFault
+abbrev pub request : Tool → List Given → List Word → Result Request WordFault
 request tool options operands = Ok (record {
   tool = tool;
   prefix = codes "R";
@@ -35,7 +35,7 @@ request tool options operands = Ok (record {
 })
 
 -- one operand
-abbrev one : String → List Word
+abbrev pub one : String → List Word
 one operand = codes operand ∷ []
 
 -- a value apart and a value in the word
@@ -176,221 +176,127 @@ asks_gpasswd_2 :
     ≡ request Gpasswd (valued "A" "bob" ∷ valued "M" "bob" ∷ []) (one "sudo")
 asks_gpasswd_2 = refl
 
--- `-a` isn't an option of useradd; within a bundle the first letter counts
-faulty_useradd : fault (words_of "useradd -aG sudo bob") ≡ Some (UnknownOption 1)
-faulty_useradd = refl
+-- the first fault of each of these texts
+abbrev pub FaultsAre : List (String × WordFault) → Type 0
+FaultsAre rows = map (λ row. fault (words_of row.0)) rows ≡ map (λ row. Some row.1) rows
 
--- no prefix
-faulty_groupadd : fault (words_of "groupadd staff") ≡ Some NoPrefix
-faulty_groupadd = refl
+-- options, values, operands and the folder
+first_faults : FaultsAre (
+    -- `-a` isn't an option of useradd; within a bundle the first letter counts
+    ("useradd -aG sudo bob", UnknownOption 1)
+    -- no prefix
+    ∷ ("groupadd staff", NoPrefix)
+    -- an empty prefix
+    ∷ ("groupadd --prefix= staff", EmptyPrefix)
+    -- the last prefix counts
+    ∷ ("groupadd -P R --prefix= staff", EmptyPrefix)
+    -- an unknown tool
+    ∷ ("adduser -P R ann", UnknownTool)
+    -- an empty word is no tool
+    ∷ (" -P R ann", UnknownTool)
+    -- an unknown letter behind a good one
+    ∷ ("userdel -P R -fr ann", UnknownOption 3)
+    -- an unknown long name, one that isn't written out
+    ∷ ("usermod -P R --comm x ann", UnknownOption 3)
+    -- getsubids has no long name for `-g`
+    ∷ ("getsubids -P R --group root", UnknownOption 3)
+    -- a value is missing at the end
+    ∷ ("useradd ann -P", MissingValue 2)
+    -- also behind a flag of its bundle
+    ∷ ("useradd ann -rP", MissingValue 2)
+    -- and behind a long name
+    ∷ ("useradd ann --prefix", MissingValue 2)
+    -- a flag with a value
+    ∷ ("useradd -P R --system=yes ann", UnexpectedValue 3)
+    -- too many operands
+    ∷ ("useradd -P R ann bob", TooMany 4)
+    -- too many operands behind `--`
+    ∷ ("pwck -P R -r -- x", TooMany 5)
+    -- an operand too many comes before a later unknown option
+    ∷ ("pwck x -z", TooMany 1)
+    -- an unknown option comes before the missing prefix
+    ∷ ("pwck -z", UnknownOption 1)
+    -- a `-` in a bundle is an unknown letter
+    ∷ ("userdel -P R -f- ann", UnknownOption 3)
+    -- `--=V` is an unknown name
+    ∷ ("userdel -P R --=V ann", UnknownOption 3)
+    -- an operand is missing
+    ∷ ("useradd -P R", TooFew)
+    -- the missing operand comes before the rules
+    ∷ ("useradd -P R -o", TooFew)
+    -- groupmems has no operand
+    ∷ ("groupmems -P R -l sudo", TooMany 4)
+    -- a conversion has no operand
+    ∷ ("pwconv -P R bob", TooMany 3)
+    ∷ [])
+first_faults = refl
 
--- an empty prefix
-faulty_groupadd_2 : fault (words_of "groupadd --prefix= staff") ≡ Some EmptyPrefix
-faulty_groupadd_2 = refl
-
--- the last prefix counts
-faulty_groupadd_3 : fault (words_of "groupadd -P R --prefix= staff") ≡ Some EmptyPrefix
-faulty_groupadd_3 = refl
-
--- an unknown tool
-faulty_adduser : fault (words_of "adduser -P R ann") ≡ Some UnknownTool
-faulty_adduser = refl
-
--- an empty word is no tool
-faulty_empty : fault (words_of " -P R ann") ≡ Some UnknownTool
-faulty_empty = refl
-
--- an unknown letter behind a good one
-faulty_userdel : fault (words_of "userdel -P R -fr ann") ≡ Some (UnknownOption 3)
-faulty_userdel = refl
-
--- an unknown long name, one that isn't written out
-faulty_usermod : fault (words_of "usermod -P R --comm x ann") ≡ Some (UnknownOption 3)
-faulty_usermod = refl
-
--- getsubids has no long name for `-g`
-faulty_getsubids : fault (words_of "getsubids -P R --group root") ≡ Some (UnknownOption 3)
-faulty_getsubids = refl
-
--- a value is missing at the end
-faulty_useradd_2 : fault (words_of "useradd ann -P") ≡ Some (MissingValue 2)
-faulty_useradd_2 = refl
-
--- also behind a flag of its bundle
-faulty_useradd_3 : fault (words_of "useradd ann -rP") ≡ Some (MissingValue 2)
-faulty_useradd_3 = refl
-
--- and behind a long name
-faulty_useradd_4 : fault (words_of "useradd ann --prefix") ≡ Some (MissingValue 2)
-faulty_useradd_4 = refl
-
--- a flag with a value
-faulty_useradd_5 : fault (words_of "useradd -P R --system=yes ann") ≡ Some (UnexpectedValue 3)
-faulty_useradd_5 = refl
-
--- too many operands
-faulty_useradd_6 : fault (words_of "useradd -P R ann bob") ≡ Some (TooMany 4)
-faulty_useradd_6 = refl
-
--- too many operands behind `--`
-faulty_pwck : fault (words_of "pwck -P R -r -- x") ≡ Some (TooMany 5)
-faulty_pwck = refl
-
--- an operand too many comes before a later unknown option
-faulty_pwck_2 : fault (words_of "pwck x -z") ≡ Some (TooMany 1)
-faulty_pwck_2 = refl
-
--- an unknown option comes before the missing prefix
-faulty_pwck_3 : fault (words_of "pwck -z") ≡ Some (UnknownOption 1)
-faulty_pwck_3 = refl
-
--- a `-` in a bundle is an unknown letter
-faulty_userdel_2 : fault (words_of "userdel -P R -f- ann") ≡ Some (UnknownOption 3)
-faulty_userdel_2 = refl
-
--- `--=V` is an unknown name
-faulty_userdel_3 : fault (words_of "userdel -P R --=V ann") ≡ Some (UnknownOption 3)
-faulty_userdel_3 = refl
-
--- an operand is missing
-faulty_useradd_7 : fault (words_of "useradd -P R") ≡ Some TooFew
-faulty_useradd_7 = refl
-
--- the missing operand comes before the rules
-faulty_useradd_8 : fault (words_of "useradd -P R -o") ≡ Some TooFew
-faulty_useradd_8 = refl
-
--- the rules of useradd
-faulty_useradd_9 : fault (words_of "useradd -P R -g 5 -U ann") ≡ Some (Clash 1)
-faulty_useradd_9 = refl
-
--- `-N` with `-U`
-faulty_useradd_10 : fault (words_of "useradd -P R -NU ann") ≡ Some (Clash 2)
-faulty_useradd_10 = refl
-
--- `-o` without `-u`
-faulty_useradd_11 : fault (words_of "useradd -P R -o ann") ≡ Some (Clash 3)
-faulty_useradd_11 = refl
-
--- the lowest broken rule
-faulty_useradd_12 : fault (words_of "useradd -P R -oNU -g 5 ann") ≡ Some (Clash 1)
-faulty_useradd_12 = refl
-
--- the rules of usermod
-faulty_usermod_2 : fault (words_of "usermod -P R -a ann") ≡ Some (Clash 1)
-faulty_usermod_2 = refl
-
--- `-o` without `-u`
-faulty_usermod_3 : fault (words_of "usermod -P R -o ann") ≡ Some (Clash 2)
-faulty_usermod_3 = refl
-
--- `-L` with `-U`
-faulty_usermod_4 : fault (words_of "usermod -P R -LU ann") ≡ Some (Clash 3)
-faulty_usermod_4 = refl
-
--- and with `-p`
-faulty_usermod_5 : fault (words_of "usermod -P R -L -p h ann") ≡ Some (Clash 3)
-faulty_usermod_5 = refl
-
--- no option at all
-faulty_usermod_6 : fault (words_of "usermod -P R ann") ≡ Some (Clash 4)
-faulty_usermod_6 = refl
-
--- the rule of groupadd
-faulty_groupadd_4 : fault (words_of "groupadd -P R -o staff") ≡ Some (Clash 1)
-faulty_groupadd_4 = refl
-
--- the rules of groupmod
-faulty_groupmod : fault (words_of "groupmod -P R -o -p h staff") ≡ Some (Clash 1)
-faulty_groupmod = refl
-
--- no option at all
-faulty_groupmod_2 : fault (words_of "groupmod -P R staff") ≡ Some (Clash 2)
-faulty_groupmod_2 = refl
-
--- the rules of gpasswd
-faulty_gpasswd : fault (words_of "gpasswd -P R sudo") ≡ Some (Clash 1)
-faulty_gpasswd = refl
-
--- `-a` with `-M`
-faulty_gpasswd_2 : fault (words_of "gpasswd -P R -a bob -M bob sudo") ≡ Some (Clash 2)
-faulty_gpasswd_2 = refl
-
--- `-r` with `-R`
-faulty_gpasswd_3 : fault (words_of "gpasswd -P R -r -R sudo") ≡ Some (Clash 2)
-faulty_gpasswd_3 = refl
-
--- the rules of groupmems
-faulty_groupmems : fault (words_of "groupmems -P R -l") ≡ Some (Clash 1)
-faulty_groupmems = refl
-
--- what is to be done isn't said
-faulty_groupmems_2 : fault (words_of "groupmems -P R -g sudo") ≡ Some (Clash 2)
-faulty_groupmems_2 = refl
-
--- or twice
-faulty_groupmems_3 : fault (words_of "groupmems -P R -g sudo -a bob -p") ≡ Some (Clash 2)
-faulty_groupmems_3 = refl
-
--- it has no operand
-faulty_groupmems_4 : fault (words_of "groupmems -P R -l sudo") ≡ Some (TooMany 4)
-faulty_groupmems_4 = refl
-
--- the rules of chage
-faulty_chage : fault (words_of "chage -P R bob") ≡ Some (Clash 1)
-faulty_chage = refl
-
--- `-l` with another option
-faulty_chage_2 : fault (words_of "chage -P R -l -d 0 bob") ≡ Some (Clash 2)
-faulty_chage_2 = refl
-
--- the rules of passwd
-faulty_passwd : fault (words_of "passwd -P R bob") ≡ Some (Clash 1)
-faulty_passwd = refl
-
--- `-S` with another option
-faulty_passwd_2 : fault (words_of "passwd -P R -S -x 9 bob") ≡ Some (Clash 2)
-faulty_passwd_2 = refl
-
--- `-l` with `-u`
-faulty_passwd_3 : fault (words_of "passwd -P R -lu bob") ≡ Some (Clash 3)
-faulty_passwd_3 = refl
-
--- a conversion has no operand
-faulty_pwconv : fault (words_of "pwconv -P R bob") ≡ Some (TooMany 3)
-faulty_pwconv = refl
-
--- the rule of chfn
-faulty_chfn : fault (words_of "chfn -P R bob") ≡ Some (Clash 1)
-faulty_chfn = refl
-
--- the rule of chsh
-faulty_chsh : fault (words_of "chsh -P R bob") ≡ Some (Clash 1)
-faulty_chsh = refl
-
--- the rule of chpasswd
-faulty_chpasswd : fault (words_of "chpasswd -P R") ≡ Some (Clash 1)
-faulty_chpasswd = refl
-
--- and that of chgpasswd
-faulty_chgpasswd : fault (words_of "chgpasswd -P R") ≡ Some (Clash 1)
-faulty_chgpasswd = refl
-
--- the rules of pwck and grpck
-faulty_pwck_4 : fault (words_of "pwck -P R -q") ≡ Some (Clash 1)
-faulty_pwck_4 = refl
-
--- `-r` with `-s`
-faulty_pwck_5 : fault (words_of "pwck -P R -r -s") ≡ Some (Clash 2)
-faulty_pwck_5 = refl
-
--- neither of them
-faulty_grpck : fault (words_of "grpck -P R") ≡ Some (Clash 1)
-faulty_grpck = refl
-
--- both of them
-faulty_grpck_2 : fault (words_of "grpck -P R -sr") ≡ Some (Clash 2)
-faulty_grpck_2 = refl
+-- the rules of the tools
+broken_rules : FaultsAre (
+    -- the rules of useradd
+    ("useradd -P R -g 5 -U ann", Clash 1)
+    -- `-N` with `-U`
+    ∷ ("useradd -P R -NU ann", Clash 2)
+    -- `-o` without `-u`
+    ∷ ("useradd -P R -o ann", Clash 3)
+    -- the lowest broken rule
+    ∷ ("useradd -P R -oNU -g 5 ann", Clash 1)
+    -- the rules of usermod
+    ∷ ("usermod -P R -a ann", Clash 1)
+    -- `-o` without `-u`
+    ∷ ("usermod -P R -o ann", Clash 2)
+    -- `-L` with `-U`
+    ∷ ("usermod -P R -LU ann", Clash 3)
+    -- and with `-p`
+    ∷ ("usermod -P R -L -p h ann", Clash 3)
+    -- no option at all
+    ∷ ("usermod -P R ann", Clash 4)
+    -- the rule of groupadd
+    ∷ ("groupadd -P R -o staff", Clash 1)
+    -- the rules of groupmod
+    ∷ ("groupmod -P R -o -p h staff", Clash 1)
+    -- no option at all
+    ∷ ("groupmod -P R staff", Clash 2)
+    -- the rules of gpasswd
+    ∷ ("gpasswd -P R sudo", Clash 1)
+    -- `-a` with `-M`
+    ∷ ("gpasswd -P R -a bob -M bob sudo", Clash 2)
+    -- `-r` with `-R`
+    ∷ ("gpasswd -P R -r -R sudo", Clash 2)
+    -- the rules of groupmems
+    ∷ ("groupmems -P R -l", Clash 1)
+    -- what is to be done isn't said
+    ∷ ("groupmems -P R -g sudo", Clash 2)
+    -- or twice
+    ∷ ("groupmems -P R -g sudo -a bob -p", Clash 2)
+    -- the rules of chage
+    ∷ ("chage -P R bob", Clash 1)
+    -- `-l` with another option
+    ∷ ("chage -P R -l -d 0 bob", Clash 2)
+    -- the rules of passwd
+    ∷ ("passwd -P R bob", Clash 1)
+    -- `-S` with another option
+    ∷ ("passwd -P R -S -x 9 bob", Clash 2)
+    -- `-l` with `-u`
+    ∷ ("passwd -P R -lu bob", Clash 3)
+    -- the rule of chfn
+    ∷ ("chfn -P R bob", Clash 1)
+    -- the rule of chsh
+    ∷ ("chsh -P R bob", Clash 1)
+    -- the rule of chpasswd
+    ∷ ("chpasswd -P R", Clash 1)
+    -- and that of chgpasswd
+    ∷ ("chgpasswd -P R", Clash 1)
+    -- the rules of pwck and grpck
+    ∷ ("pwck -P R -q", Clash 1)
+    -- `-r` with `-s`
+    ∷ ("pwck -P R -r -s", Clash 2)
+    -- neither of them
+    ∷ ("grpck -P R", Clash 1)
+    -- both of them
+    ∷ ("grpck -P R -sr", Clash 2)
+    ∷ [])
+broken_rules = refl
 
 -- no words
 no_words : fault [] ≡ Some NoTool

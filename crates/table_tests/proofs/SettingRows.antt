@@ -6,6 +6,7 @@ use Rattle.account_model.specs.declared.settings.Kind.TheVariants.{System}
 use Rattle.account_model.specs.declared.settings.IdSort.TheVariants.{Uid, Gid}
 use Rattle.account_model.specs.Settings.{number, range, user_groups, with_words, is_setting_word}
 use Rattle.account_model.specs.Ids.{chosen_id}
+use Rattle.table_tests.proofs.ValueRows.{Divides}
 
 -- ---- without a setting
 
@@ -27,26 +28,8 @@ no_greatest = refl
 
 -- ---- which words of `-K` are settings (useradd(8), groupadd(8))
 
-hexadecimal : is_setting_word (codes "GID_MIN=0x10") ≡ true
-hexadecimal = refl
-
-flag : is_setting_word (codes "USERGROUPS_ENAB=maybe") ≡ true
-flag = refl
-
-no_days : is_setting_word (codes "PASS_MAX_DAYS=-1") ≡ true
-no_days = refl
-
-no_id : is_setting_word (codes "GID_MIN=-1") ≡ false
-no_id = refl
-
-second_equals : is_setting_word (codes "GID_MIN=5=") ≡ false
-second_equals = refl
-
-no_value : is_setting_word (codes "GID_MIN") ≡ false
-no_value = refl
-
-other_key : is_setting_word (codes "UMASK=022") ≡ false
-other_key = refl
-
-no_key : is_setting_word (codes "=5") ≡ false
-no_key = refl
+-- a number may be hexadecimal, a flag any word, and days -1
+setting_words : Divides is_setting_word
+    ("GID_MIN=0x10" ∷ "USERGROUPS_ENAB=maybe" ∷ "PASS_MAX_DAYS=-1" ∷ [])
+    ("GID_MIN=-1" ∷ "GID_MIN=5=" ∷ "GID_MIN" ∷ "UMASK=022" ∷ "=5" ∷ [])
+setting_words = (refl, refl)

@@ -14,29 +14,7 @@ use Rattle.account_model.specs.NewAccount.{kind_of}
 use Rattle.account_model.specs.Request.{Request, has_option, operand, value_of, values_of}
 use Rattle.account_model.specs.Values.{given_id, text_value}
 use Rattle.account_model.specs.Words.{request_of, fault}
-
--- the words of a text without quotes, cut at blanks as a shell does
-abbrev words_of : String → List Word
-words_of text = slice_split (λ c. c == 32) (codes text)
-
-abbrev flagged : String → Given
-flagged letter = record { letter = byte letter; value = None }
-
-abbrev valued : String → String → Given
-valued letter value = record { letter = byte letter; value = Some (codes value) }
-
-abbrev request : Tool → List Given → List Word → Result Request WordFault
-request tool options operands =
-    Ok (record {
-      tool = tool;
-      prefix = codes "R";
-      options = options;
-      operands = operands;
-      plan = None;
-    })
-
-abbrev one : String → List Word
-one operand = codes operand ∷ []
+use Rattle.account_model.proofs.WordRows.{FaultsAre, flagged, one, request, valued, words_of}
 
 -- ---- requests
 
@@ -70,55 +48,33 @@ long_prefix = refl
 
 -- ---- the first fault
 
-unknown_in_a_bundle : fault (words_of "useradd -P R -aG sudo bob") ≡ Some (UnknownOption 3)
-unknown_in_a_bundle = refl
+first_faults : FaultsAre (
+    -- within a bundle, before the prefix, and behind a flag
+    ("useradd -P R -aG sudo bob", UnknownOption 3)
+    ∷ ("userdel -r ann", UnknownOption 1)
+    ∷ ("groupdel -P R -fx staff", UnknownOption 3)
+    -- no owner
+    ∷ ("getsubids -P R", TooFew)
+    -- no value, by its letter, by its long name, and of the prefix
+    ∷ ("usermod -P R -l", MissingValue 3)
+    ∷ ("groupmod -P R --gid", MissingValue 3)
+    ∷ ("userdel -P", MissingValue 1)
+    -- two operands
+    ∷ ("useradd -P R -- -x y", TooMany 5)
+    ∷ [])
+first_faults = refl
 
-unknown_before_the_prefix : fault (words_of "userdel -r ann") ≡ Some (UnknownOption 1)
-unknown_before_the_prefix = refl
-
-no_owner : fault (words_of "getsubids -P R") ≡ Some TooFew
-no_owner = refl
-
-no_value : fault (words_of "usermod -P R -l") ≡ Some (MissingValue 3)
-no_value = refl
-
-no_long_value : fault (words_of "groupmod -P R --gid") ≡ Some (MissingValue 3)
-no_long_value = refl
-
-no_prefix_value : fault (words_of "userdel -P") ≡ Some (MissingValue 1)
-no_prefix_value = refl
-
-two_operands : fault (words_of "useradd -P R -- -x y") ≡ Some (TooMany 5)
-two_operands = refl
-
-unknown_behind_a_flag : fault (words_of "groupdel -P R -fx staff") ≡ Some (UnknownOption 3)
-unknown_behind_a_flag = refl
-
--- ---- the first broken rule
-
-useradd_2 : fault (words_of "useradd -P R -oNU ann") ≡ Some (Clash 2)
-useradd_2 = refl
-
-useradd_3 : fault (words_of "useradd -P R -oN -g 5 ann") ≡ Some (Clash 3)
-useradd_3 = refl
-
-usermod_1 : fault (words_of "usermod -P R -aoLU ann") ≡ Some (Clash 1)
-usermod_1 = refl
-
-usermod_2 : fault (words_of "usermod -P R -oLU ann") ≡ Some (Clash 2)
-usermod_2 = refl
-
-groupmod_1 : fault (words_of "groupmod -P R -o staff") ≡ Some (Clash 1)
-groupmod_1 = refl
-
-gpasswd_2 : fault (words_of "gpasswd -P R -rR sudo") ≡ Some (Clash 2)
-gpasswd_2 = refl
-
-chage_2 : fault (words_of "chage -P R -l -m 5 ann") ≡ Some (Clash 2)
-chage_2 = refl
-
-pwck_2 : fault (words_of "pwck -P R -sr") ≡ Some (Clash 2)
-pwck_2 = refl
+broken_rules : FaultsAre (
+    ("useradd -P R -oNU ann", Clash 2)
+    ∷ ("useradd -P R -oN -g 5 ann", Clash 3)
+    ∷ ("usermod -P R -aoLU ann", Clash 1)
+    ∷ ("usermod -P R -oLU ann", Clash 2)
+    ∷ ("groupmod -P R -o staff", Clash 1)
+    ∷ ("gpasswd -P R -rR sudo", Clash 2)
+    ∷ ("chage -P R -l -m 5 ann", Clash 2)
+    ∷ ("pwck -P R -sr", Clash 2)
+    ∷ [])
+broken_rules = refl
 
 -- ---- the limits: of words, and of the bytes of one, which come first
 
