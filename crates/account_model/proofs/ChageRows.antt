@@ -1,11 +1,11 @@
 -- chage from its words to its answer, each row decided by computing.
-use Rattle.std.specs.Prelude.{◌≡◌, [], ◌++◌, codes, refl, Some}
+use Rattle.std.specs.Prelude.{◌≡◌, [], ◌++◌, codes, refl, Some, ◌∷◌}
 use Rattle.std.specs.Fmt.{digits}
 use Rattle.std.specs.Str.{byte}
 use Rattle.acct_text.specs.declared.Tab.TheVariants.{Shadow}
 use Rattle.account_model.specs.declared.refusal.Refusal.TheVariants.{BadValue, NoUser, NoShadow, Multiple}
 use Rattle.account_model.proofs.Image.{image}
-use Rattle.account_model.proofs.Commands.{words, lines, on, plainly_on, changed, same, refused, printed, image_shadow_with, small, nothing}
+use Rattle.account_model.proofs.Commands.{words, lines, on, plainly_on, changed, same, refused, printed, image_shadow_with, small, nothing, AreAnswered, refusing}
 
 -- `chage -P R -M -1 bob`: `-1` empties the field
 no_maximum : on image (words "chage -P R -M -1 bob")
@@ -40,66 +40,33 @@ on_demand :
 unfolding digits
 on_demand = refl
 
--- `chage -P R -W x -d 2024-02-30 ann`
-bad_last_change : on image (words "chage -P R -W x -d 2024-02-30 ann")
-    ≡ refused 2 (BadValue (byte "d") (codes "2024-02-30"))
+-- what is refused on the image
+refusals : AreAnswered (
+    refusing "chage -P R -W x -d 2024-02-30 ann" 2 (BadValue (byte "d") (codes "2024-02-30"))
     "chage: invalid value for -d: 2024-02-30 (a date as 2026-01-31, days since 1970-01-01, or -1)"
-unfolding digits
-bad_last_change = refl
-
--- `chage -P R -W x -E 2024-02-30 bob`
-bad_expiration : on image (words "chage -P R -W x -E 2024-02-30 bob")
-    ≡ refused 2 (BadValue (byte "E") (codes "2024-02-30"))
+    ∷ refusing "chage -P R -W x -E 2024-02-30 bob" 2 (BadValue (byte "E") (codes "2024-02-30"))
     "chage: invalid value for -E: 2024-02-30 (a date as 2026-01-31, days since 1970-01-01, or -1)"
-unfolding digits
-bad_expiration = refl
-
--- `chage -P R -m x -I -2 bob`
-bad_inactive : on image (words "chage -P R -m x -I -2 bob")
-    ≡ refused 2 (BadValue (byte "I") (codes "-2"))
+    ∷ refusing "chage -P R -m x -I -2 bob" 2 (BadValue (byte "I") (codes "-2"))
     "chage: invalid value for -I: -2 (-1 or a number from 0 to 2147483647)"
-unfolding digits
-bad_inactive = refl
-
--- `chage -P R -M x -m y bob`
-bad_minimum : on image (words "chage -P R -M x -m y bob")
-    ≡ refused 2 (BadValue (byte "m") (codes "y"))
+    ∷ refusing "chage -P R -M x -m y bob" 2 (BadValue (byte "m") (codes "y"))
     "chage: invalid value for -m: y (-1 or a number from 0 to 2147483647)"
-unfolding digits
-bad_minimum = refl
-
--- `chage -P R -W x -M 2147483648 bob`
-bad_maximum : on image (words "chage -P R -W x -M 2147483648 bob")
-    ≡ refused 2 (BadValue (byte "M") (codes "2147483648"))
+    ∷ refusing "chage -P R -W x -M 2147483648 bob" 2 (BadValue (byte "M") (codes "2147483648"))
     "chage: invalid value for -M: 2147483648 (-1 or a number from 0 to 2147483647)"
-unfolding digits
-bad_maximum = refl
-
--- `chage -P R -W 2024-01-01 ann`
-bad_warning : on image (words "chage -P R -W 2024-01-01 ann")
-    ≡ refused 2 (BadValue (byte "W") (codes "2024-01-01"))
+    ∷ refusing "chage -P R -W 2024-01-01 ann" 2 (BadValue (byte "W") (codes "2024-01-01"))
     "chage: invalid value for -W: 2024-01-01 (-1 or a number from 0 to 2147483647)"
-unfolding digits
-bad_warning = refl
-
--- `chage -P R -E  bob`: an empty value is no date here
-empty_expiration : on image (words "chage -P R -E  bob")
-    ≡ refused 2 (BadValue (byte "E") [])
+    -- an empty value is no date here
+    ∷ refusing "chage -P R -E  bob" 2 (BadValue (byte "E") [])
     "chage: invalid value for -E:  (a date as 2026-01-31, days since 1970-01-01, or -1)"
+    ∷ refusing "chage -P R -l ann" 1 (NoUser (codes "ann")) "chage: unknown user ann"
+    ∷ [])
 unfolding digits
-empty_expiration = refl
+refusals = refl
 
 -- `chage -P R -l ann`
 chage_no_shadow : plainly_on nothing (words "chage -P R -l ann")
     ≡ refused 15 NoShadow "chage: shadow does not exist"
 unfolding digits
 chage_no_shadow = refl
-
--- `chage -P R -l ann`
-chage_no_user : on image (words "chage -P R -l ann")
-    ≡ refused 1 (NoUser (codes "ann")) "chage: unknown user ann"
-unfolding digits
-chage_no_user = refl
 
 -- `chage -P R -m 1 a`
 two_shadow_lines : plainly_on (record (small "a:x:1:1::/:" "")

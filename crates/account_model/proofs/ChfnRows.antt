@@ -1,6 +1,6 @@
 -- chfn and chsh from their words to their answer, each row decided by computing.
 use Prim.Native.String.{String}
-use Rattle.std.specs.Prelude.{◌≡◌, ◌∷◌, ◌++◌, codes, refl, take, Some, Result}
+use Rattle.std.specs.Prelude.{◌≡◌, ◌∷◌, ◌++◌, codes, refl, take, Some, Result, []}
 use Rattle.std.specs.Fmt.{digits}
 use Rattle.std.specs.Str.{byte}
 use Rattle.acct_text.specs.declared.files.Files.{Files}
@@ -10,7 +10,7 @@ use Rattle.account_model.specs.declared.word_fault.WordFault.{WordFault}
 use Rattle.account_model.specs.Answer.{Answer}
 use Rattle.account_model.proofs.Image.{image, image_passwd}
 use Rattle.account_model.proofs.SettingsImage.{file}
-use Rattle.account_model.proofs.Commands.{words, lines, on, plainly_on, changed, same, refused, small}
+use Rattle.account_model.proofs.Commands.{words, lines, on, plainly_on, changed, same, refused, small, AreAnswered, refusing}
 
 -- bob's line of passwd in the image becomes this one
 abbrev bob_becomes : String → Result Answer WordFault
@@ -71,30 +71,24 @@ fewer_commas = refl
 
 -- ---- The refusals
 
--- `chfn -P R -o a:b -h a=b -w a,b -r a:b -f A,B ann`: values in their order, before the user
-bad_name : on image (words "chfn -P R -o a:b -h a=b -w a,b -r a:b -f A,B ann")
-    ≡ refused 1 (BadValue (byte "f") (codes "A,B"))
+-- what is refused on the image
+refusals : AreAnswered (
+    -- values in their order, before the user
+    refusing "chfn -P R -o a:b -h a=b -w a,b -r a:b -f A,B ann"
+    1 (BadValue (byte "f") (codes "A,B"))
     "chfn: invalid value for -f: A,B (no : , = and no newline)"
-unfolding digits
-bad_name = refl
-
-bad_home : on image (words "chfn -P R -o a:b -h a=b ann")
-    ≡ refused 1 (BadValue (byte "h") (codes "a=b"))
+    ∷ refusing "chfn -P R -o a:b -h a=b ann" 1 (BadValue (byte "h") (codes "a=b"))
     "chfn: invalid value for -h: a=b (no : , = and no newline)"
-unfolding digits
-bad_home = refl
-
-bad_other : on image (words "chfn -P R -o a:b ann")
-    ≡ refused 1 (BadValue (byte "o") (codes "a:b"))
+    ∷ refusing "chfn -P R -o a:b ann" 1 (BadValue (byte "o") (codes "a:b"))
     "chfn: invalid value for -o: a:b (no : and no newline)"
+    ∷ refusing "chfn -P R -f A ann" 1 (NoUser (codes "ann")) "chfn: unknown user ann"
+    -- the value before the user
+    ∷ refusing "chsh -P R -s sh ann" 1 (BadValue (byte "s") (codes "sh"))
+    "chsh: invalid value for -s: sh (a path that begins with /, no : and no newline)"
+    ∷ refusing "chsh -P R -s /bin/sh ann" 1 (NoUser (codes "ann")) "chsh: unknown user ann"
+    ∷ [])
 unfolding digits
-bad_other = refl
-
--- `chfn -P R -f A ann`
-no_user : on image (words "chfn -P R -f A ann")
-    ≡ refused 1 (NoUser (codes "ann")) "chfn: unknown user ann"
-unfolding digits
-no_user = refl
+refusals = refl
 
 -- `chfn -P R -f A a`: the name stands twice
 twice : plainly_on (small "a:x:1:1::/:|a:x:1:1:A,,,:/:" "") (words "chfn -P R -f A a")
@@ -114,15 +108,3 @@ empty_shell : on image (words "chsh -P R -s  bob")
     ≡ bob_becomes "bob:x:1000:1000:Bob,,,:/home/bob:"
 unfolding digits
 empty_shell = refl
-
--- `chsh -P R -s sh ann`: the value before the user
-bad_shell : on image (words "chsh -P R -s sh ann")
-    ≡ refused 1 (BadValue (byte "s") (codes "sh"))
-    "chsh: invalid value for -s: sh (a path that begins with /, no : and no newline)"
-unfolding digits
-bad_shell = refl
-
-no_user_of_shell : on image (words "chsh -P R -s /bin/sh ann")
-    ≡ refused 1 (NoUser (codes "ann")) "chsh: unknown user ann"
-unfolding digits
-no_user_of_shell = refl

@@ -1,6 +1,6 @@
 -- Commands from their words to the answer, on files that are written as texts.
 use Prim.Native.String.{String}
-use Rattle.std.specs.Prelude.{ℕ, ◌==◌, List, [], ◌∷◌, ◌++◌, codes, Option, Some, None, Result, Ok, Err}
+use Rattle.std.specs.Prelude.{◌≡◌, ℕ, ◌==◌, List, [], ◌∷◌, map, ◌++◌, codes, Option, Some, None, Result, Ok, Err}
 use Rattle.std.specs.List.{slice_split}
 use Rattle.acct_text.specs.declared.files.Files.{Files}
 use Rattle.account_model.specs.declared.word_fault.WordFault.{WordFault}
@@ -70,6 +70,15 @@ refused status refusal text =
       error = codes
           text ++ newline ∷ [];
     })
+
+-- each of these answers is the one beside it
+abbrev pub AreAnswered : List (Result Answer WordFault × Result Answer WordFault) → Type 0
+AreAnswered rows = map (λ row. row.0) rows ≡ map (λ row. row.1) rows
+
+-- a command that is refused on the image, with its status, its reason and its line
+abbrev pub refusing : String → ℕ → Refusal → String
+    → Result Answer WordFault × Result Answer WordFault
+refusing command status refusal text = (on image (words command), refused status refusal text)
 
 -- tables that can't be used, with the status and the line on the error stream
 abbrev pub unusable : ℕ → FileProblem → String → Result Answer WordFault

@@ -1,12 +1,12 @@
 -- gpasswd from its words to its answer, each row decided by computing.
-use Rattle.std.specs.Prelude.{◌≡◌, codes, refl, Some}
+use Rattle.std.specs.Prelude.{◌≡◌, codes, refl, Some, [], ◌∷◌}
 use Rattle.std.specs.Fmt.{digits}
 use Rattle.acct_text.specs.declared.Tab.TheVariants.{Group}
 use Rattle.account_model.specs.declared.refusal.Refusal.TheVariants.{BadName, NoUser, NoGroup, NotMember, Multiple}
 use Rattle.acct_text.specs.declared.files.Files.{Files}
 use Prim.Native.String.{String}
 use Rattle.account_model.proofs.Image.{image}
-use Rattle.account_model.proofs.Commands.{words, lines, on, plainly_on, changed, same, refused, image_group_with, image_gshadow_with, small, nothing}
+use Rattle.account_model.proofs.Commands.{words, lines, on, plainly_on, changed, same, refused, image_group_with, image_gshadow_with, small, nothing, AreAnswered, refusing}
 
 -- two users and one group, with its line of group and that of gshadow
 abbrev one_group : String → String → Files
@@ -66,36 +66,19 @@ no_gshadow : plainly_on (small "a:x:1:1:::" "q:x:5:") (words "gpasswd -P R -A a 
 unfolding digits
 no_gshadow = refl
 
--- `gpasswd -P R -a ghost staff`
-unknown_group : on image (words "gpasswd -P R -a ghost staff")
-    ≡ refused 3 (NoGroup (codes "staff")) "gpasswd: unknown group staff"
-unfolding digits
-unknown_group = refl
-
--- `gpasswd -P R -a ghost sudo`
-ghost_user : on image (words "gpasswd -P R -a ghost sudo")
-    ≡ refused 3 (NoUser (codes "ghost")) "gpasswd: unknown user ghost"
-unfolding digits
-ghost_user = refl
-
--- `gpasswd -P R -d root sudo`
-not_member : on image (words "gpasswd -P R -d root sudo")
-    ≡ refused 3 (NotMember (codes "root") (codes "sudo"))
+-- what is refused on the image
+refusals : AreAnswered (
+    refusing "gpasswd -P R -a ghost staff" 3 (NoGroup (codes "staff"))
+    "gpasswd: unknown group staff"
+    ∷ refusing "gpasswd -P R -a ghost sudo" 3 (NoUser (codes "ghost")) "gpasswd: unknown user ghost"
+    ∷ refusing "gpasswd -P R -d root sudo" 3 (NotMember (codes "root") (codes "sudo"))
     "gpasswd: user root is not a member of sudo"
+    ∷ refusing "gpasswd -P R -A bob,ghost -M spook sudo" 3 (NoUser (codes "ghost"))
+    "gpasswd: unknown user ghost"
+    ∷ refusing "gpasswd -P R -M spook sudo" 3 (NoUser (codes "spook")) "gpasswd: unknown user spook"
+    ∷ [])
 unfolding digits
-not_member = refl
-
--- `gpasswd -P R -A bob,ghost -M spook sudo`
-ghost_administrator : on image (words "gpasswd -P R -A bob,ghost -M spook sudo")
-    ≡ refused 3 (NoUser (codes "ghost")) "gpasswd: unknown user ghost"
-unfolding digits
-ghost_administrator = refl
-
--- `gpasswd -P R -M spook sudo`
-ghost_member : on image (words "gpasswd -P R -M spook sudo")
-    ≡ refused 3 (NoUser (codes "spook")) "gpasswd: unknown user spook"
-unfolding digits
-ghost_member = refl
+refusals = refl
 
 -- `gpasswd -P R -a a,b q`: a name with a comma can't stand in a list, which is tested before multiple entries
 comma_name : plainly_on (small "a,b:x:1:1:::" "q:x:5:|q:x:5:") (words "gpasswd -P R -a a,b q")

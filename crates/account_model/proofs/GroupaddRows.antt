@@ -1,5 +1,5 @@
 -- groupadd from its words to its answer, each row decided by computing.
-use Rattle.std.specs.Prelude.{◌≡◌, [], ◌++◌, codes, refl, Some, None}
+use Rattle.std.specs.Prelude.{◌≡◌, [], ◌++◌, codes, refl, Some, None, ◌∷◌}
 use Rattle.std.specs.Fmt.{digits}
 use Rattle.std.specs.Str.{byte}
 use Rattle.acct_text.specs.declared.Tab.TheVariants.{Passwd, Group, Gshadow}
@@ -7,7 +7,7 @@ use Rattle.account_model.specs.declared.refusal.Refusal.TheVariants.{BadName, Ba
 use Rattle.account_model.specs.Answer.{TableAbsent}
 use Rattle.account_model.proofs.Image.{image, image_group, image_gshadow}
 use Rattle.account_model.proofs.SettingsImage.{file}
-use Rattle.account_model.proofs.Commands.{words, lines, on, plainly_on, changed, same, refused, unusable, nothing}
+use Rattle.account_model.proofs.Commands.{words, lines, on, plainly_on, changed, same, refused, unusable, nothing, AreAnswered, refusing}
 
 -- `groupadd -P R -g 1500 staff`: without gshadow the hash stands in group
 first_group : plainly_on nothing (words "groupadd -P R -g 1500 staff")
@@ -53,19 +53,6 @@ forced_name : on image (words "groupadd -P R -f sudo")
 unfolding digits
 forced_name = refl
 
--- `groupadd -P R -f -p : sudo`: but its values are tested
-forced_bad_value : on image (words "groupadd -P R -f -p : sudo")
-    ≡ refused 3 (BadValue (byte "p") (codes ":"))
-    "groupadd: invalid value for -p: : (no : and no newline)"
-unfolding digits
-forced_bad_value = refl
-
--- `groupadd -P R -g 27 sudo`: the name is tested before the GID
-name_taken : on image (words "groupadd -P R -g 27 sudo")
-    ≡ refused 9 (GroupExists (codes "sudo")) "groupadd: group sudo exists"
-unfolding digits
-name_taken = refl
-
 -- `groupadd -P R q`: other text stays
 behind_comment : plainly_on (record nothing { group = Some (lines "#") }) (words "groupadd -P R q")
     ≡ changed (record nothing { group = Some (lines "#|q:!:1000:") })
@@ -84,33 +71,26 @@ own_hash : plainly_on (record nothing { gshadow = Some [] }) (words "groupadd -P
 unfolding digits
 own_hash = refl
 
--- `groupadd -P R -K x q:`
-invalid_name : on image (words "groupadd -P R -K x q:")
-    ≡ refused 3 (BadName (codes "q:"))
+-- what is refused on the image
+refusals : AreAnswered (
+    -- but its values are tested
+    refusing "groupadd -P R -f -p : sudo" 3 (BadValue (byte "p") (codes ":"))
+    "groupadd: invalid value for -p: : (no : and no newline)"
+    -- the name is tested before the GID
+    ∷ refusing "groupadd -P R -g 27 sudo" 9 (GroupExists (codes "sudo"))
+    "groupadd: group sudo exists"
+    ∷ refusing "groupadd -P R -K x q:" 3 (BadName (codes "q:"))
     "groupadd: invalid name: q: (1 to 32 letters, digits, _ . or -, not - first, not digits alone)"
-unfolding digits
-invalid_name = refl
-
--- `groupadd -P R -p : -K GID_MIN=08 q`: `08` is no octal number
-invalid_setting : on image (words "groupadd -P R -p : -K GID_MIN=08 q")
-    ≡ refused 3 (BadKey (codes "GID_MIN=08"))
+    -- `08` is no octal number
+    ∷ refusing "groupadd -P R -p : -K GID_MIN=08 q" 3 (BadKey (codes "GID_MIN=08"))
     "groupadd: invalid setting: GID_MIN=08 (KEY=VALUE, with a key that accounts-useradd(8) lists)"
-unfolding digits
-invalid_setting = refl
-
--- `groupadd -P R -g x -p a:b q`
-invalid_hash : on image (words "groupadd -P R -g x -p a:b q")
-    ≡ refused 3 (BadValue (byte "p") (codes "a:b"))
+    ∷ refusing "groupadd -P R -g x -p a:b q" 3 (BadValue (byte "p") (codes "a:b"))
     "groupadd: invalid value for -p: a:b (no : and no newline)"
-unfolding digits
-invalid_hash = refl
-
--- `groupadd -P R -g 4294967295 sudo`
-invalid_gid : on image (words "groupadd -P R -g 4294967295 sudo")
-    ≡ refused 3 (BadValue (byte "g") (codes "4294967295"))
+    ∷ refusing "groupadd -P R -g 4294967295 sudo" 3 (BadValue (byte "g") (codes "4294967295"))
     "groupadd: invalid value for -g: 4294967295 (a number from 0 to 4294967294)"
+    ∷ [])
 unfolding digits
-invalid_gid = refl
+refusals = refl
 
 -- `groupadd -P R -K GID_MIN=7 -K GID_MAX=7 q`: the only GID of the range is used
 no_gid : plainly_on (record nothing { group = Some (lines "a:x:7:") })

@@ -1,17 +1,19 @@
 -- groupdel from its words to its answer, each row decided by computing.
-use Rattle.std.specs.Prelude.{◌≡◌, ◌++◌, codes, refl, Some}
+use Rattle.std.specs.Prelude.{◌≡◌, ◌++◌, codes, refl, Some, [], ◌∷◌}
 use Rattle.std.specs.Fmt.{digits}
 use Rattle.acct_text.specs.declared.Tab.TheVariants.{Group, Gshadow}
 use Rattle.account_model.specs.declared.refusal.Refusal.TheVariants.{NoGroup, PrimaryGroup, Multiple}
 use Rattle.account_model.proofs.Image.{image}
-use Rattle.account_model.proofs.Commands.{words, lines, on, plainly_on, changed, refused, nothing}
+use Rattle.account_model.proofs.Commands.{words, lines, on, plainly_on, changed, refused, nothing, AreAnswered, refusing}
 
--- `groupdel -P R bob`
-primary_group : on image (words "groupdel -P R bob")
-    ≡ refused 8 (PrimaryGroup (codes "bob") (codes "bob"))
+-- what is refused on the image
+refusals : AreAnswered (
+    refusing "groupdel -P R bob" 8 (PrimaryGroup (codes "bob") (codes "bob"))
     "groupdel: group bob is the primary group of bob"
+    ∷ refusing "groupdel -P R staff" 6 (NoGroup (codes "staff")) "groupdel: unknown group staff"
+    ∷ [])
 unfolding digits
-primary_group = refl
+refusals = refl
 
 -- `groupdel -P R -f bob`: with `-f` it goes
 forced_deletion : on image (words "groupdel -P R -f bob")
@@ -25,12 +27,6 @@ forced_deletion : on image (words "groupdel -P R -f bob")
     })
 unfolding digits
 forced_deletion = refl
-
--- `groupdel -P R staff`
-unknown_group : on image (words "groupdel -P R staff")
-    ≡ refused 6 (NoGroup (codes "staff")) "groupdel: unknown group staff"
-unfolding digits
-unknown_group = refl
 
 -- `groupdel -P R q`
 two_groups :

@@ -1,11 +1,11 @@
 -- groupmems from its words to its answer, each row decided by computing.
-use Rattle.std.specs.Prelude.{◌≡◌, [], codes, refl, Some}
+use Rattle.std.specs.Prelude.{◌≡◌, [], codes, refl, Some, ◌∷◌}
 use Rattle.std.specs.Fmt.{digits}
 use Prim.Native.String.{String}
 use Rattle.acct_text.specs.declared.files.Files.{Files}
 use Rattle.account_model.specs.declared.refusal.Refusal.TheVariants.{BadName, NoUser, NoGroup, NotMember}
 use Rattle.account_model.proofs.Image.{image}
-use Rattle.account_model.proofs.Commands.{words, lines, on, plainly_on, changed, same, refused, printed, reported, image_group_with, image_gshadow_with, small}
+use Rattle.account_model.proofs.Commands.{words, lines, on, plainly_on, changed, same, refused, printed, reported, image_group_with, image_gshadow_with, small, AreAnswered, refusing}
 
 -- two users and one group, with its line of group and that of gshadow
 abbrev one_group : String → String → Files
@@ -60,30 +60,19 @@ none_listed : on image (words "groupmems -P R -g root -l") ≡ printed 0 []
 unfolding digits
 none_listed = refl
 
--- `groupmems -P R -g 27 -a ghost`: the group is a name, and is tested first
-no_group : on image (words "groupmems -P R -g 27 -a ghost")
-    ≡ refused 3 (NoGroup (codes "27")) "groupmems: unknown group 27"
-unfolding digits
-no_group = refl
-
--- `groupmems -P R -g staff -l`
-no_group_to_list : on image (words "groupmems -P R -g staff -l")
-    ≡ refused 3 (NoGroup (codes "staff")) "groupmems: unknown group staff"
-unfolding digits
-no_group_to_list = refl
-
--- `groupmems -P R -g sudo -a ghost`
-no_user : on image (words "groupmems -P R -g sudo -a ghost")
-    ≡ refused 3 (NoUser (codes "ghost")) "groupmems: unknown user ghost"
-unfolding digits
-no_user = refl
-
--- `groupmems -P R -g sudo -d root`
-not_member : on image (words "groupmems -P R -g sudo -d root")
-    ≡ refused 3 (NotMember (codes "root") (codes "sudo"))
+-- what is refused on the image
+refusals : AreAnswered (
+    -- the group is a name, and is tested first
+    refusing "groupmems -P R -g 27 -a ghost" 3 (NoGroup (codes "27")) "groupmems: unknown group 27"
+    ∷ refusing "groupmems -P R -g staff -l" 3 (NoGroup (codes "staff"))
+    "groupmems: unknown group staff"
+    ∷ refusing "groupmems -P R -g sudo -a ghost" 3 (NoUser (codes "ghost"))
+    "groupmems: unknown user ghost"
+    ∷ refusing "groupmems -P R -g sudo -d root" 3 (NotMember (codes "root") (codes "sudo"))
     "groupmems: user root is not a member of sudo"
+    ∷ [])
 unfolding digits
-not_member = refl
+refusals = refl
 
 -- `groupmems -P R -g q -a a,b`: a name with a comma can't stand in a list
 comma_name : plainly_on (small "a,b:x:1:1:::" "q:x:5:") (words "groupmems -P R -g q -a a,b")

@@ -1,12 +1,12 @@
 -- groupmod from its words to its answer, each row decided by computing.
-use Rattle.std.specs.Prelude.{◌≡◌, [], ◌++◌, codes, refl, Some}
+use Rattle.std.specs.Prelude.{◌≡◌, [], ◌++◌, codes, refl, Some, ◌∷◌}
 use Rattle.std.specs.Fmt.{digits}
 use Rattle.std.specs.Str.{byte}
 use Rattle.acct_text.specs.declared.Tab.TheVariants.{Passwd}
 use Rattle.account_model.specs.declared.refusal.Refusal.TheVariants.{BadValue, GroupExists, NoGroup, GidInUse, Multiple}
 use Rattle.acct_text.specs.declared.files.Files.{Files}
 use Rattle.account_model.proofs.Image.{image}
-use Rattle.account_model.proofs.Commands.{words, lines, on, plainly_on, changed, same, refused, small, nothing}
+use Rattle.account_model.proofs.Commands.{words, lines, on, plainly_on, changed, same, refused, small, nothing, AreAnswered, refusing}
 
 -- the image with the group bob as staff, of GID 2000
 abbrev with_staff : Files
@@ -63,38 +63,22 @@ own_gid : on image (words "groupmod -P R -g 1000 -n bob bob")
 unfolding digits
 own_gid = refl
 
--- `groupmod -P R -g x -n - bob`
-invalid_gid : on image (words "groupmod -P R -g x -n - bob")
-    ≡ refused 3 (BadValue (byte "g") (codes "x"))
+-- what is refused on the image
+refusals : AreAnswered (
+    refusing "groupmod -P R -g x -n - bob" 3 (BadValue (byte "g") (codes "x"))
     "groupmod: invalid value for -g: x (a number from 0 to 4294967294)"
-unfolding digits
-invalid_gid = refl
-
--- `groupmod -P R -p : -n - bob`
-invalid_name : on image (words "groupmod -P R -p : -n - bob")
-    ≡ refused 3 (BadValue (byte "n") (codes "-"))
+    ∷ refusing "groupmod -P R -p : -n - bob" 3 (BadValue (byte "n") (codes "-"))
     "groupmod: invalid value for -n: - (1 to 32 letters, digits, _ . or -, not - first, not digits alone)"
-unfolding digits
-invalid_name = refl
-
--- `groupmod -P R -p : staff`
-invalid_hash : on image (words "groupmod -P R -p : staff")
-    ≡ refused 3 (BadValue (byte "p") (codes ":"))
+    ∷ refusing "groupmod -P R -p : staff" 3 (BadValue (byte "p") (codes ":"))
     "groupmod: invalid value for -p: : (no : and no newline)"
+    ∷ refusing "groupmod -P R -n sudo staff" 6 (NoGroup (codes "staff"))
+    "groupmod: unknown group staff"
+    ∷ refusing "groupmod -P R -g 27 -n sudo bob" 9 (GroupExists (codes "sudo"))
+    "groupmod: group sudo exists"
+    ∷ refusing "groupmod -P R -g 27 bob" 4 (GidInUse 27) "groupmod: GID 27 is in use"
+    ∷ [])
 unfolding digits
-invalid_hash = refl
-
--- `groupmod -P R -n sudo staff`
-unknown_group : on image (words "groupmod -P R -n sudo staff")
-    ≡ refused 6 (NoGroup (codes "staff")) "groupmod: unknown group staff"
-unfolding digits
-unknown_group = refl
-
--- `groupmod -P R -g 27 -n sudo bob`
-used_name : on image (words "groupmod -P R -g 27 -n sudo bob")
-    ≡ refused 9 (GroupExists (codes "sudo")) "groupmod: group sudo exists"
-unfolding digits
-used_name = refl
+refusals = refl
 
 -- `groupmod -P R -n b a`
 used_name_in_gshadow : plainly_on (record nothing
@@ -103,12 +87,6 @@ used_name_in_gshadow : plainly_on (record nothing
     ≡ refused 9 (GroupExists (codes "b")) "groupmod: group b exists"
 unfolding digits
 used_name_in_gshadow = refl
-
--- `groupmod -P R -g 27 bob`
-used_gid : on image (words "groupmod -P R -g 27 bob")
-    ≡ refused 4 (GidInUse 27) "groupmod: GID 27 is in use"
-unfolding digits
-used_gid = refl
 
 -- `groupmod -P R -g 7 q`: a user of the group stands twice
 two_users : plainly_on (small "a:x:1:5:::|a:x:2:6:::" "q:x:5:") (words "groupmod -P R -g 7 q")

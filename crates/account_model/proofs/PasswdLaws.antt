@@ -3,7 +3,7 @@
 use Rattle.std.proofs.Common.{◌≡◌, ℕ, Bool, true, false, not, List, [], ◌∷◌, refl, sym, ◌∙◌, ap, subst, Ok}
 use Rattle.std.specs.Prelude.{Option, Some, None, bytes_eq, codes, is_some, option_map, unwrap_or}
 use Rattle.acct_text.specs.declared.files.Files.{Files}
-use Rattle.acct_text.specs.declared.Tab.TheVariants.{Passwd, Shadow, Group, Gshadow}
+use Rattle.acct_text.specs.declared.Tab.TheVariants.{Passwd, Shadow}
 use Rattle.acct_text.specs.Bytes.{is_empty}
 use Rattle.acct_text.specs.Lines.{lines_of, file_bytes}
 use Rattle.account_model.specs.declared.tool.Tool.{Tool}
@@ -12,7 +12,7 @@ use Rattle.account_model.specs.declared.records.ShadowRecord.{ShadowRecord}
 use Rattle.account_model.specs.declared.refusal.Refusal.TheVariants.{NoUser, Multiple}
 use Rattle.account_model.specs.Text.{begins_with, exclamation, first_some}
 use Rattle.account_model.specs.Format.{is_named, find_named}
-use Rattle.account_model.specs.Edits.{Edit, each_where, edited_by, first_multiple}
+use Rattle.account_model.specs.Edits.{Edit, each_where, edited_by}
 use Rattle.account_model.specs.Records.{passwd_format, shadow_format, group_format, gshadow_format, subid_format}
 use Rattle.account_model.specs.Tables.{Script, no_edits, files_after, table_after, table_records, passwd_records, shadow_records, group_records, gshadow_records}
 use Rattle.account_model.specs.WrittenScript.{IsWrittenScript}

@@ -9,7 +9,7 @@ use Rattle.account_model.specs.declared.word_fault.WordFault.TheVariants.{Unknow
 use Rattle.account_model.specs.Answer.{BadSettingAt}
 use Rattle.account_model.proofs.Image.{image, image_passwd, image_shadow}
 use Rattle.account_model.proofs.SettingsImage.{file}
-use Rattle.account_model.proofs.Commands.{words, lines, answer_to, on, plainly_on, changed, changed_with, refused, unusable, image_group_with, image_gshadow_with, with_ann, image_and, small, nothing}
+use Rattle.account_model.proofs.Commands.{words, lines, answer_to, on, plainly_on, changed, changed_with, refused, unusable, image_group_with, image_gshadow_with, with_ann, image_and, small, nothing, AreAnswered, refusing}
 
 -- `useradd -P R -c "Ann Lee" -G sudo ann`: a user with a comment and a group
 new_user : on image (words "useradd -P R -c" ++ codes "Ann Lee" ∷ words "-G sudo ann")
@@ -68,12 +68,6 @@ no_free_uid : plainly_on (record nothing {
     ≡ refused 4 NoFreeUid "useradd: no free UID"
 unfolding digits
 no_free_uid = refl
-
--- `useradd -P R -N -u 1000 x`
-used_uid : on image (words "useradd -P R -N -u 1000 x")
-    ≡ refused 4 (UidInUse 1000) "useradd: UID 1000 is in use"
-unfolding digits
-used_uid = refl
 
 -- `useradd -P R -N -o -u 1000 x`: with `-o` a used UID is taken
 shared_uid : on image (words "useradd -P R -N -o -u 1000 x")
@@ -211,119 +205,51 @@ shadow_line_is_put : plainly_on (record nothing { shadow = Some (lines "ann:*:1:
 unfolding digits
 shadow_line_is_put = refl
 
--- `useradd -P R -K x -c : 12`: the refusals of useradd, in their order
-bad_login : on image (words "useradd -P R -K x -c : 12")
-    ≡ refused 3 (BadName (codes "12"))
+-- what is refused on the image
+refusals : AreAnswered (
+    refusing "useradd -P R -N -u 1000 x" 4 (UidInUse 1000) "useradd: UID 1000 is in use"
+    -- the refusals of useradd, in their order
+    ∷ refusing "useradd -P R -K x -c : 12" 3 (BadName (codes "12"))
     "useradd: invalid name: 12 (1 to 32 letters, digits, _ . or -, not - first, not digits alone)"
-unfolding digits
-bad_login = refl
-
--- `useradd -P R -K UID_MIN=5 -K UMASK=1 -K x -c : bob`
-bad_key : on image (words "useradd -P R -K UID_MIN=5 -K UMASK=1 -K x -c : bob")
-    ≡ refused 3 (BadKey (codes "UMASK=1"))
+    ∷ refusing "useradd -P R -K UID_MIN=5 -K UMASK=1 -K x -c : bob" 3 (BadKey (codes "UMASK=1"))
     "useradd: invalid setting: UMASK=1 (KEY=VALUE, with a key that accounts-useradd(8) lists)"
-unfolding digits
-bad_key = refl
-
--- `useradd -P R -u 4294967295 -p a:b -s sh -f -2 -e x -b : -d home -c : bob`
-bad_value_c :
-    on image (words "useradd -P R -u 4294967295 -p a:b -s sh -f -2 -e x -b : -d home -c : bob")
-    ≡ refused 3 (BadValue (byte "c") (codes ":"))
+    ∷ refusing "useradd -P R -u 4294967295 -p a:b -s sh -f -2 -e x -b : -d home -c : bob"
+    3 (BadValue (byte "c") (codes ":"))
     "useradd: invalid value for -c: : (no : and no newline)"
-unfolding digits
-bad_value_c = refl
-
--- `useradd -P R -u 4294967295 -p a:b -s sh -f -2 -e x -b : -d home bob`
-bad_value_d : on image (words "useradd -P R -u 4294967295 -p a:b -s sh -f -2 -e x -b : -d home bob")
-    ≡ refused 3 (BadValue (byte "d") (codes "home"))
+    ∷ refusing "useradd -P R -u 4294967295 -p a:b -s sh -f -2 -e x -b : -d home bob"
+    3 (BadValue (byte "d") (codes "home"))
     "useradd: invalid value for -d: home (a path that begins with /, no : and no newline)"
-unfolding digits
-bad_value_d = refl
-
--- `useradd -P R -u 4294967295 -p a:b -s sh -f -2 -e x -b : bob`
-bad_value_b : on image (words "useradd -P R -u 4294967295 -p a:b -s sh -f -2 -e x -b : bob")
-    ≡ refused 3 (BadValue (byte "b") (codes ":"))
+    ∷ refusing "useradd -P R -u 4294967295 -p a:b -s sh -f -2 -e x -b : bob"
+    3 (BadValue (byte "b") (codes ":"))
     "useradd: invalid value for -b: : (a path that begins with /, no : and no newline)"
-unfolding digits
-bad_value_b = refl
-
--- `useradd -P R -u 4294967295 -p a:b -s sh -f -2 -e x bob`
-bad_value_e : on image (words "useradd -P R -u 4294967295 -p a:b -s sh -f -2 -e x bob")
-    ≡ refused 3 (BadValue (byte "e") (codes "x"))
+    ∷ refusing "useradd -P R -u 4294967295 -p a:b -s sh -f -2 -e x bob"
+    3 (BadValue (byte "e") (codes "x"))
     "useradd: invalid value for -e: x (a date as 2026-01-31, days since 1970-01-01, or -1)"
-unfolding digits
-bad_value_e = refl
-
--- `useradd -P R -u 4294967295 -p a:b -s sh -f -2 bob`
-bad_value_f : on image (words "useradd -P R -u 4294967295 -p a:b -s sh -f -2 bob")
-    ≡ refused 3 (BadValue (byte "f") (codes "-2"))
+    ∷ refusing "useradd -P R -u 4294967295 -p a:b -s sh -f -2 bob"
+    3 (BadValue (byte "f") (codes "-2"))
     "useradd: invalid value for -f: -2 (-1 or a number from 0 to 2147483647)"
-unfolding digits
-bad_value_f = refl
-
--- `useradd -P R -u 4294967295 -p a:b -s sh bob`
-bad_value_s : on image (words "useradd -P R -u 4294967295 -p a:b -s sh bob")
-    ≡ refused 3 (BadValue (byte "s") (codes "sh"))
+    ∷ refusing "useradd -P R -u 4294967295 -p a:b -s sh bob" 3 (BadValue (byte "s") (codes "sh"))
     "useradd: invalid value for -s: sh (a path that begins with /, no : and no newline)"
-unfolding digits
-bad_value_s = refl
-
--- `useradd -P R -u 4294967295 -p a:b bob`
-bad_value_p : on image (words "useradd -P R -u 4294967295 -p a:b bob")
-    ≡ refused 3 (BadValue (byte "p") (codes "a:b"))
+    ∷ refusing "useradd -P R -u 4294967295 -p a:b bob" 3 (BadValue (byte "p") (codes "a:b"))
     "useradd: invalid value for -p: a:b (no : and no newline)"
-unfolding digits
-bad_value_p = refl
-
--- `useradd -P R -u 4294967295 bob`
-bad_value_u : on image (words "useradd -P R -u 4294967295 bob")
-    ≡ refused 3 (BadValue (byte "u") (codes "4294967295"))
+    ∷ refusing "useradd -P R -u 4294967295 bob" 3 (BadValue (byte "u") (codes "4294967295"))
     "useradd: invalid value for -u: 4294967295 (a number from 0 to 4294967294)"
+    ∷ refusing "useradd -P R -g nope bob" 9 (UserExists (codes "bob")) "useradd: user bob exists"
+    ∷ refusing "useradd -P R -g nope -G none ann" 6 (NoGroup (codes "nope"))
+    "useradd: unknown group nope"
+    ∷ refusing "useradd -P R -G sudo,00,77,none messageboy" 6 (NoGroup (codes "77"))
+    "useradd: unknown group 77"
+    ∷ refusing "useradd -P R -u 0 sudo" 9 (GroupExists (codes "sudo")) "useradd: group sudo exists"
+    ∷ refusing "useradd -P R -K GID_MIN=5 -K GID_MAX=4 -K UID_MIN=100 -K UID_MAX=101 -o -u 27 x"
+    4 NoFreeGid
+    "useradd: no free GID"
+    ∷ refusing "useradd -P R -K SUB_UID_MAX=165536 -K SUB_GID_MAX=165536 x" 1 (NoGap Subuid)
+    "useradd: no free range in subuid"
+    ∷ refusing "useradd -P R -K SUB_GID_COUNT=600000000 x" 1 (NoGap Subgid)
+    "useradd: no free range in subgid"
+    ∷ [])
 unfolding digits
-bad_value_u = refl
-
--- `useradd -P R -g nope bob`
-user_exists : on image (words "useradd -P R -g nope bob")
-    ≡ refused 9 (UserExists (codes "bob")) "useradd: user bob exists"
-unfolding digits
-user_exists = refl
-
--- `useradd -P R -g nope -G none ann`
-no_primary_group : on image (words "useradd -P R -g nope -G none ann")
-    ≡ refused 6 (NoGroup (codes "nope")) "useradd: unknown group nope"
-unfolding digits
-no_primary_group = refl
-
--- `useradd -P R -G sudo,00,77,none messageboy`
-no_group : on image (words "useradd -P R -G sudo,00,77,none messageboy")
-    ≡ refused 6 (NoGroup (codes "77")) "useradd: unknown group 77"
-unfolding digits
-no_group = refl
-
--- `useradd -P R -u 0 sudo`
-group_exists : on image (words "useradd -P R -u 0 sudo")
-    ≡ refused 9 (GroupExists (codes "sudo")) "useradd: group sudo exists"
-unfolding digits
-group_exists = refl
-
--- `useradd -P R -K GID_MIN=5 -K GID_MAX=4 -K UID_MIN=100 -K UID_MAX=101 -o -u 27 x`
-no_free_gid : on image (words
-    "useradd -P R -K GID_MIN=5 -K GID_MAX=4 -K UID_MIN=100 -K UID_MAX=101 -o -u 27 x")
-    ≡ refused 4 NoFreeGid "useradd: no free GID"
-unfolding digits
-no_free_gid = refl
-
--- `useradd -P R -K SUB_UID_MAX=165536 -K SUB_GID_MAX=165536 x`
-no_uid_gap : on image (words "useradd -P R -K SUB_UID_MAX=165536 -K SUB_GID_MAX=165536 x")
-    ≡ refused 1 (NoGap Subuid) "useradd: no free range in subuid"
-unfolding digits
-no_uid_gap = refl
-
--- `useradd -P R -K SUB_GID_COUNT=600000000 x`
-no_gid_gap : on image (words "useradd -P R -K SUB_GID_COUNT=600000000 x")
-    ≡ refused 1 (NoGap Subgid) "useradd: no free range in subgid"
-unfolding digits
-no_gid_gap = refl
+refusals = refl
 
 -- `useradd -P R -N -G g ann`: a group of `-G` with two lines
 useradd_multiple : plainly_on (small "" "g:x:1:|g:x:2:") (words "useradd -P R -N -G g ann")

@@ -1,11 +1,11 @@
 -- What usermod refuses, in the order in which it is tested, each row decided by computing.
-use Rattle.std.specs.Prelude.{◌≡◌, [], ◌++◌, codes, refl, Some}
+use Rattle.std.specs.Prelude.{◌≡◌, [], ◌++◌, codes, refl, Some, ◌∷◌}
 use Rattle.std.specs.Fmt.{digits}
 use Rattle.std.specs.Str.{byte}
 use Rattle.acct_text.specs.declared.Tab.TheVariants.{Subuid}
 use Rattle.account_model.specs.declared.refusal.Refusal.TheVariants.{BadName, BadValue, UserExists, NoUser, NoGroup, UidInUse, Meets, EmptyHash}
 use Rattle.account_model.proofs.Image.{image}
-use Rattle.account_model.proofs.Commands.{words, lines, on, plainly_on, same, refused, small}
+use Rattle.account_model.proofs.Commands.{words, lines, on, plainly_on, same, refused, small, AreAnswered, refusing}
 
 -- `usermod -P R -W 1-4294967295 -w 1- -V 1 -v 2-1 -u -1 -l -x -p a:b -s sh -f -2 -e x -d home -c : ann`: the refusals of usermod, in their order
 usermod_value_c : on image (words "usermod -P R -W 1-4294967295 -w 1- -V 1 -v 2-1 -u -1 -l -x"
@@ -23,98 +23,51 @@ usermod_value_d : on image (words "usermod -P R -W 1-4294967295 -w 1- -V 1 -v 2-
 unfolding digits
 usermod_value_d = refl
 
--- `usermod -P R -W 1-4294967295 -w 1- -V 1 -v 2-1 -u -1 -l -x -p a:b -s sh -f -2 -e x ann`
-usermod_value_e : on image (words
-    "usermod -P R -W 1-4294967295 -w 1- -V 1 -v 2-1 -u -1 -l -x -p a:b -s sh -f -2 -e x ann")
-    ≡ refused 3 (BadValue (byte "e") (codes "x"))
+-- what is refused on the image
+refusals : AreAnswered (
+    refusing "usermod -P R -W 1-4294967295 -w 1- -V 1 -v 2-1 -u -1 -l -x -p a:b -s sh -f -2 -e x ann"
+    3 (BadValue (byte "e") (codes "x"))
     "usermod: invalid value for -e: x (a date as 2026-01-31, days since 1970-01-01, or -1)"
-unfolding digits
-usermod_value_e = refl
-
--- `usermod -P R -W 1-4294967295 -w 1- -V 1 -v 2-1 -u -1 -l -x -p a:b -s sh -f -2 ann`
-usermod_value_f : on image (words
-    "usermod -P R -W 1-4294967295 -w 1- -V 1 -v 2-1 -u -1 -l -x -p a:b -s sh -f -2 ann")
-    ≡ refused 3 (BadValue (byte "f") (codes "-2"))
+    ∷ refusing "usermod -P R -W 1-4294967295 -w 1- -V 1 -v 2-1 -u -1 -l -x -p a:b -s sh -f -2 ann"
+    3 (BadValue (byte "f") (codes "-2"))
     "usermod: invalid value for -f: -2 (-1 or a number from 0 to 2147483647)"
-unfolding digits
-usermod_value_f = refl
-
--- `usermod -P R -W 1-4294967295 -w 1- -V 1 -v 2-1 -u -1 -l -x -p a:b -s sh ann`
-usermod_value_s : on image (words
-    "usermod -P R -W 1-4294967295 -w 1- -V 1 -v 2-1 -u -1 -l -x -p a:b -s sh ann")
-    ≡ refused 3 (BadValue (byte "s") (codes "sh"))
+    ∷ refusing "usermod -P R -W 1-4294967295 -w 1- -V 1 -v 2-1 -u -1 -l -x -p a:b -s sh ann"
+    3 (BadValue (byte "s") (codes "sh"))
     "usermod: invalid value for -s: sh (a path that begins with /, no : and no newline)"
-unfolding digits
-usermod_value_s = refl
-
--- `usermod -P R -W 1-4294967295 -w 1- -V 1 -v 2-1 -u -1 -l -x -p a:b ann`
-usermod_value_p : on image (words
-    "usermod -P R -W 1-4294967295 -w 1- -V 1 -v 2-1 -u -1 -l -x -p a:b ann")
-    ≡ refused 3 (BadValue (byte "p") (codes "a:b"))
+    ∷ refusing "usermod -P R -W 1-4294967295 -w 1- -V 1 -v 2-1 -u -1 -l -x -p a:b ann"
+    3 (BadValue (byte "p") (codes "a:b"))
     "usermod: invalid value for -p: a:b (no : and no newline)"
-unfolding digits
-usermod_value_p = refl
-
--- `usermod -P R -W 1-4294967295 -w 1- -V 1 -v 2-1 -u -1 -l -x ann`
-usermod_value_l : on image (words "usermod -P R -W 1-4294967295 -w 1- -V 1 -v 2-1 -u -1 -l -x ann")
-    ≡ refused 3 (BadValue (byte "l") (codes "-x"))
+    ∷ refusing "usermod -P R -W 1-4294967295 -w 1- -V 1 -v 2-1 -u -1 -l -x ann"
+    3 (BadValue (byte "l") (codes "-x"))
     "usermod: invalid value for -l: -x (1 to 32 letters, digits, _ . or -, not - first, not digits alone)"
-unfolding digits
-usermod_value_l = refl
-
--- `usermod -P R -W 1-4294967295 -w 1- -V 1 -v 2-1 -u -1 ann`
-usermod_value_u : on image (words "usermod -P R -W 1-4294967295 -w 1- -V 1 -v 2-1 -u -1 ann")
-    ≡ refused 3 (BadValue (byte "u") (codes "-1"))
+    ∷ refusing "usermod -P R -W 1-4294967295 -w 1- -V 1 -v 2-1 -u -1 ann"
+    3 (BadValue (byte "u") (codes "-1"))
     "usermod: invalid value for -u: -1 (a number from 0 to 4294967294)"
-unfolding digits
-usermod_value_u = refl
-
--- `usermod -P R -W 1-4294967295 -w 1- -V 1 -v 2-1 ann`
-usermod_value_v : on image (words "usermod -P R -W 1-4294967295 -w 1- -V 1 -v 2-1 ann")
-    ≡ refused 3 (BadValue (byte "v") (codes "2-1"))
+    ∷ refusing "usermod -P R -W 1-4294967295 -w 1- -V 1 -v 2-1 ann"
+    3 (BadValue (byte "v") (codes "2-1"))
     "usermod: invalid value for -v: 2-1 (FIRST-LAST, two IDs)"
-unfolding digits
-usermod_value_v = refl
-
--- `usermod -P R -W 1-4294967295 -w 1- -V 1 ann`
-usermod_value_del_v : on image (words "usermod -P R -W 1-4294967295 -w 1- -V 1 ann")
-    ≡ refused 3 (BadValue (byte "V") (codes "1"))
+    ∷ refusing "usermod -P R -W 1-4294967295 -w 1- -V 1 ann" 3 (BadValue (byte "V") (codes "1"))
     "usermod: invalid value for -V: 1 (FIRST-LAST, two IDs)"
-unfolding digits
-usermod_value_del_v = refl
-
--- `usermod -P R -W 1-4294967295 -w 1- ann`
-usermod_value_w : on image (words "usermod -P R -W 1-4294967295 -w 1- ann")
-    ≡ refused 3 (BadValue (byte "w") (codes "1-"))
+    ∷ refusing "usermod -P R -W 1-4294967295 -w 1- ann" 3 (BadValue (byte "w") (codes "1-"))
     "usermod: invalid value for -w: 1- (FIRST-LAST, two IDs)"
-unfolding digits
-usermod_value_w = refl
-
--- `usermod -P R -W 1-4294967295 ann`
-usermod_value_del_w : on image (words "usermod -P R -W 1-4294967295 ann")
-    ≡ refused 3 (BadValue (byte "W") (codes "1-4294967295"))
+    ∷ refusing "usermod -P R -W 1-4294967295 ann" 3 (BadValue (byte "W") (codes "1-4294967295"))
     "usermod: invalid value for -W: 1-4294967295 (FIRST-LAST, two IDs)"
-unfolding digits
-usermod_value_del_w = refl
-
--- `usermod -P R -v 5 -v 1-2 ann`: each range counts
-each_range_value : on image (words "usermod -P R -v 5 -v 1-2 ann")
-    ≡ refused 3 (BadValue (byte "v") (codes "5"))
+    -- each range counts
+    ∷ refusing "usermod -P R -v 5 -v 1-2 ann" 3 (BadValue (byte "v") (codes "5"))
     "usermod: invalid value for -v: 5 (FIRST-LAST, two IDs)"
+    ∷ refusing "usermod -P R -l root ann" 6 (NoUser (codes "ann")) "usermod: unknown user ann"
+    ∷ refusing "usermod -P R -l root -u 0 bob" 9 (UserExists (codes "root"))
+    "usermod: user root exists"
+    ∷ refusing "usermod -P R -u 0 -g nope bob" 4 (UidInUse 0) "usermod: UID 0 is in use"
+    ∷ refusing "usermod -P R -g nope -G none bob" 6 (NoGroup (codes "nope"))
+    "usermod: unknown group nope"
+    ∷ refusing "usermod -P R -G sudo,none messagebus" 6 (NoGroup (codes "none"))
+    "usermod: unknown group none"
+    ∷ refusing "usermod -P R -U -v 100000-100000 messagebus" 3 (EmptyHash (codes "messagebus"))
+    "usermod: unlocking messagebus would leave no password"
+    ∷ [])
 unfolding digits
-each_range_value = refl
-
--- `usermod -P R -l root ann`
-unknown_user : on image (words "usermod -P R -l root ann")
-    ≡ refused 6 (NoUser (codes "ann")) "usermod: unknown user ann"
-unfolding digits
-unknown_user = refl
-
--- `usermod -P R -l root -u 0 bob`
-name_taken : on image (words "usermod -P R -l root -u 0 bob")
-    ≡ refused 9 (UserExists (codes "root")) "usermod: user root exists"
-unfolding digits
-name_taken = refl
+refusals = refl
 
 -- `usermod -P R -l b a`
 name_taken_in_shadow : plainly_on (record (small "a:x:1:1::/:" "g:x:1:")
@@ -123,36 +76,11 @@ name_taken_in_shadow : plainly_on (record (small "a:x:1:1::/:" "g:x:1:")
 unfolding digits
 name_taken_in_shadow = refl
 
--- `usermod -P R -u 0 -g nope bob`
-uid_taken : on image (words "usermod -P R -u 0 -g nope bob")
-    ≡ refused 4 (UidInUse 0) "usermod: UID 0 is in use"
-unfolding digits
-uid_taken = refl
-
 -- `usermod -P R -u 1000 bob`: the own UID is no other's
 own_uid : on image (words "usermod -P R -u 1000 bob")
     ≡ same
 unfolding digits
 own_uid = refl
-
--- `usermod -P R -g nope -G none bob`
-unknown_primary : on image (words "usermod -P R -g nope -G none bob")
-    ≡ refused 6 (NoGroup (codes "nope")) "usermod: unknown group nope"
-unfolding digits
-unknown_primary = refl
-
--- `usermod -P R -G sudo,none messagebus`
-unknown_group : on image (words "usermod -P R -G sudo,none messagebus")
-    ≡ refused 6 (NoGroup (codes "none")) "usermod: unknown group none"
-unfolding digits
-unknown_group = refl
-
--- `usermod -P R -U -v 100000-100000 messagebus`
-empty_hash : on image (words "usermod -P R -U -v 100000-100000 messagebus")
-    ≡ refused 3 (EmptyHash (codes "messagebus"))
-    "usermod: unlocking messagebus would leave no password"
-unfolding digits
-empty_hash = refl
 
 -- `usermod -P R -U a`: a user without a line in shadow: the password field counts
 empty_hash_in_passwd : plainly_on (record (small "a:!:1:1::/:" "g:x:1:") { shadow = Some [] })
