@@ -6,7 +6,7 @@ use Rattle.std.specs.List.{slice_split}
 use Rattle.acct_text.specs.declared.files.Files.{Files}
 use Rattle.account_model.specs.Records.{passwd_format, group_format}
 use Rattle.account_model.specs.Words.{request_of}
-use Rattle.account_model.specs.DeedLines.{table_lines}
+use Rattle.account_model.specs.Tables.{table_lines}
 use Rattle.account_model.specs.NamedLines.{Named, named_by_deed, names_group, names_nothing, names_passwd, unnamed_texts}
 use Rattle.account_model.proofs.Commands.{words, small, today}
 

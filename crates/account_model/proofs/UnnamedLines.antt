@@ -8,9 +8,9 @@ use Rattle.acct_text.specs.Lines.{Line}
 use Rattle.account_model.specs.Format.{Format}
 use Rattle.account_model.specs.Edits.{Edit, touches}
 use Rattle.account_model.specs.Records.{passwd_format, shadow_format, group_format, gshadow_format, subid_format}
-use Rattle.account_model.specs.Tables.{Script}
+use Rattle.account_model.specs.Tables.{Script, table_lines}
 use Rattle.account_model.specs.TouchedLines.{AreAmong, is_untouched, untouched_texts}
-use Rattle.account_model.specs.DeedLines.{LeaveUntouched, LeavesUntouched, edits_of_deed, table_lines}
+use Rattle.account_model.specs.DeedLines.{LeaveUntouched, LeavesUntouched, edits_of_deed}
 use Rattle.account_model.specs.NamedLines.{DeedsLeaveUnnamed, LeaveUnnamed, LeavesUnnamed, Named, TouchNamed, is_unnamed, named_by_deed, names_group, names_gshadow, names_passwd, names_shadow, names_subid, unnamed_texts}
 use Rattle.account_model.proofs.NamedDeeds.{deeds-touch-named}
 use Rattle.account_model.proofs.TextTimes.{within-times}

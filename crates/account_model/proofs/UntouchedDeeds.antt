@@ -13,7 +13,7 @@ use Rattle.account_model.specs.Format.{Format}
 use Rattle.account_model.specs.Edits.{Edit, Become, Add, AddMissing, Put, Arrange, edited, edited_by}
 use Rattle.account_model.specs.Records.{passwd_format, shadow_format, group_format, gshadow_format, subid_format, greatest_days}
 use Rattle.account_model.specs.RecordEdits.{IsWrittenEdit, TellsSame}
-use Rattle.account_model.specs.Tables.{Script, no_edits, table_after, files_after, followed_by}
+use Rattle.account_model.specs.Tables.{Script, no_edits, table_after, files_after, followed_by, table_lines}
 use Rattle.account_model.specs.TouchedLines.{is_untouched, untouched_texts, ends}
 use Rattle.account_model.specs.WrittenScript.{IsWrittenScript}
 use Rattle.account_model.specs.Settings.{Setting, settings_of}
@@ -23,7 +23,7 @@ use Rattle.account_model.specs.Change.{action_of}
 use Rattle.account_model.specs.Batch.{Written, batch, ensures, line_outcome, outcome_ensured}
 use Rattle.account_model.specs.BatchLines.{LineRequest, line_requests}
 use Rattle.account_model.specs.Answer.{deed}
-use Rattle.account_model.specs.DeedLines.{DeedsLeaveUntouched, IsByEdits, LeaveUntouched, LeavesUntouched, IsSorting, edits_by, edits_of_deed, edits_of_lines, edits_on, table_lines, then_edits, times}
+use Rattle.account_model.specs.DeedLines.{DeedsLeaveUntouched, IsByEdits, LeaveUntouched, LeavesUntouched, IsSorting, edits_by, edits_of_deed, edits_of_lines, edits_on, then_edits, times}
 use Rattle.account_model.proofs.BatchLaws.{ensured-made, line-carried, ok-inj, outcome-made}
 use Rattle.account_model.proofs.DeedLaws.{deed-makes}
 use Rattle.account_model.proofs.EditLines.{edited-lines}

@@ -1,14 +1,14 @@
 -- Which lines of the six tables a deed leaves: its edits are those of its tool, or of the commands of a
 -- batch one after another, and each line that they don't touch stays byte for byte.
-use Rattle.std.specs.Prelude.{◌≡◌, ℕ, ◌≤◌, Bool, false, codes, List, [], ◌∷◌, count_by, bytes_eq, Option, Some, None, unwrap_or, Result, ⊤, if◌then◌else◌}
+use Rattle.std.specs.Prelude.{◌≡◌, ℕ, ◌≤◌, Bool, false, codes, List, [], ◌∷◌, count_by, bytes_eq, Option, Some, unwrap_or, Result, ⊤, if◌then◌else◌}
 use Rattle.std.specs.declared.result.Result.TheVariants.{Ok, Err}
 use Rattle.std.specs.List.{AllByRecursion}
 use Rattle.acct_text.specs.declared.files.Files.{Files}
-use Rattle.acct_text.specs.Lines.{Line, lines_of, texts_of}
+use Rattle.acct_text.specs.Lines.{Line, texts_of}
 use Rattle.account_model.specs.Format.{Format}
 use Rattle.account_model.specs.Edits.{Edit, Arrange}
 use Rattle.account_model.specs.Records.{passwd_format, shadow_format, group_format, gshadow_format, subid_format, greatest_days}
-use Rattle.account_model.specs.Tables.{Script, no_edits, files_after, followed_by}
+use Rattle.account_model.specs.Tables.{Script, no_edits, files_after, followed_by, table_lines}
 use Rattle.account_model.specs.WrittenScript.{IsWrittenScript}
 use Rattle.account_model.specs.TouchedLines.{KeepsOrder, AreAmong, untouched_texts}
 use Rattle.account_model.specs.declared.refusal.Refusal.{Refusal}
@@ -75,11 +75,6 @@ pub record LeavesUntouched {R : Type 0} (format : Format R) (edits : List (Edit 
       → AreAmong (untouched_texts format edits old) (texts_of new)
   pub sorted : AllByRecursion IsSorting edits → (text : List ℕ)
       → times text (texts_of new) ≡ times text (texts_of old)
-
--- the lines of a table; an absent one has none
-abbrev pub table_lines : Option (List ℕ) → List Line
-table_lines None = []
-table_lines (Some bytes) = lines_of bytes
 
 -- so it is in each table
 pub record LeaveUntouched (edits : Script) (old new : Files) : Type 0 where

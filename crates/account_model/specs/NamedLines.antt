@@ -17,7 +17,7 @@ use Rattle.account_model.specs.Format.{Format}
 use Rattle.account_model.specs.Edits.{Edit, touches}
 use Rattle.account_model.specs.TouchedLines.{AreAmong, KeepsOrder}
 use Rattle.account_model.specs.Records.{passwd_format, shadow_format, group_format, gshadow_format, subid_format, greatest_days}
-use Rattle.account_model.specs.Tables.{Script, files_after}
+use Rattle.account_model.specs.Tables.{Script, files_after, table_lines}
 use Rattle.account_model.specs.Settings.{Setting, settings_of}
 use Rattle.account_model.specs.Users.{group_named}
 use Rattle.account_model.specs.Values.{given_gid}
@@ -30,7 +30,7 @@ use Rattle.account_model.specs.Usermod.{new_name, uid_after}
 use Rattle.account_model.specs.Userdel.{own_uid}
 use Rattle.account_model.specs.BatchLines.{LineRequest, line_requests}
 use Rattle.account_model.specs.Answer.{deed}
-use Rattle.account_model.specs.DeedLines.{edits_of_deed, edits_on, table_lines, times}
+use Rattle.account_model.specs.DeedLines.{edits_of_deed, edits_on, times}
 
 -- ---- What a command names
 

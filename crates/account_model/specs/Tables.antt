@@ -7,10 +7,15 @@ use Rattle.account_model.specs.declared.records.ShadowRecord.{ShadowRecord}
 use Rattle.account_model.specs.declared.records.GroupRecord.{GroupRecord}
 use Rattle.account_model.specs.declared.records.GshadowRecord.{GshadowRecord}
 use Rattle.account_model.specs.declared.records.SubidRecord.{SubidRecord}
-use Rattle.acct_text.specs.Lines.{lines_of, file_bytes}
+use Rattle.acct_text.specs.Lines.{Line, lines_of, file_bytes}
 use Rattle.account_model.specs.Format.{Format, records_of}
 use Rattle.account_model.specs.Edits.{Edit, edited_by}
 use Rattle.account_model.specs.Records.{passwd_format, shadow_format, group_format, gshadow_format, subid_format}
+
+-- the lines of a table's file; an absent one has none
+abbrev pub table_lines : Option (List ℕ) → List Line
+table_lines None = []
+table_lines (Some bytes) = lines_of bytes
 
 -- the records of a table, in the order of its lines; an absent one has none
 abbrev pub table_records : {R : Type 0} → Format R → Option (List ℕ) → List R

@@ -1,4 +1,3 @@
-pub mod TablesOfLines
 pub mod TableLines
 pub mod Renaming
 pub mod SeenLines

@@ -7,7 +7,7 @@ ghost use Rattle.account_model.specs.Edits.{with_line};
 ghost use Rattle.account_model.specs.Format.{count_named, find_named, has_named, records_of};
 ghost use Rattle.account_model.specs.Written.{IsWritten};
 ghost use Rattle.acct_tables.specs.SeenLines.{end_for, missing_end, seen_line};
-ghost use Rattle.acct_tables.specs.TablesOfLines.{lines_in};
+ghost use Rattle.account_model.specs.Tables.{table_lines};
 
 use crate::line::{is_named, read_record};
 use crate::name_search::from_name;
@@ -100,7 +100,7 @@ impl<'a> Lines<'a> {
 
 /// The bytes of a table's file; an absent one has none.
 pub fn text_of(file: &Option<Bytes>) -> &[u8]
-    ensures { lines_of result.now ≡ lines_in file.now }
+    ensures { lines_of result.now ≡ table_lines file.now }
 {
     match file {
         Some(text) => text.as_slice(),

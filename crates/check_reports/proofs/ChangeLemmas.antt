@@ -14,11 +14,10 @@ use Rattle.account_model.specs.declared.fault.LineFault.{LineFault}
 use Rattle.account_model.specs.Format.{Format, is_named, count_named, find_named, records_of}
 use Rattle.account_model.specs.Conversion.{shown, with_shown}
 use Rattle.account_model.specs.Edits.{Become, edited, is_multiple, line_becomes, touches}
-use Rattle.account_model.specs.Tables.{table_after}
+use Rattle.account_model.specs.Tables.{table_after, table_lines}
 use Rattle.acct_tables.specs.NameIndex.{TellsAtMost, are_several, has_name, records_at, told}
 use Rattle.acct_tables.specs.declared.name_index.NamedLines.{NamedLines}
 use Rattle.acct_tables.proofs.NameIndexLemmas.{none-counts}
-use Rattle.acct_tables.specs.TablesOfLines.{lines_in}
 use Rattle.check_reports.specs.declared.sorting.ByPlace.{ByPlace}
 use Rattle.check_reports.specs.LineChanges.{is_met_by, met_in}
 use Rattle.check_reports.specs.Secrets.{HasSecrets, found_text, shown_by}
@@ -233,7 +232,7 @@ module _ {R : Type 0} (format : Format R) where
   -- the bytes of what becomes of the lines of a table are those of the table after the edit
   pub table-walked :
       (f : R → List R) (file : Option (List ℕ)) (text : List ℕ)
-      → text ≡ file_bytes (edited format (lines_in file) (Become f))
+      → text ≡ file_bytes (edited format (table_lines file) (Become f))
       → table_after format (Become f ∷ []) file ≡ option_map (λ _. text) file
   table-walked f None text is = refl
   table-walked f (Some bytes) text is = ap Some (sym is)

@@ -21,10 +21,9 @@ use Rattle.account_model.specs.Edits.{Become, Edit, becomes, becoming_touches, e
 use Rattle.account_model.specs.Format.{Format, find_named, has_named}
 use Rattle.account_model.specs.Hashes.{elsewhere}
 use Rattle.account_model.specs.RecordEdits.{IsWrittenEdit, TellsSame}
-use Rattle.account_model.specs.Tables.{table_after}
+use Rattle.account_model.specs.Tables.{table_after, table_lines}
 use Rattle.account_model.specs.Written.{IsWritten}
 use Rattle.acct_tables.proofs.EditedFiles.{edit-found}
-use Rattle.acct_tables.specs.TablesOfLines.{lines_in}
 use Rattle.check_reports.specs.Gathered.{gathered_by, gathered_edits, made_edits, taken_edits}
 use Rattle.check_reports.specs.Secrets.{found_text}
 use Rattle.check_reports.specs.declared.secrets.Secrets.{Secrets}
@@ -232,7 +231,7 @@ pub gathered-walked :
     → hashes.read [] ≡ None
     → AllByRecursion (IsWrittenEdit hashes) (gathered_edits hashes fields take make mains)
     → (file : Option (List ℕ)) (kept grown : List ℕ)
-    → kept ≡ file_bytes (edited hashes (lines_in file) (Become (gathered_by hashes fields take)))
+    → kept ≡ file_bytes (edited hashes (table_lines file) (Become (gathered_by hashes fields take)))
     → grown ≡ file_bytes (edited_by hashes (made_edits make mains) (lines_of kept))
     → table_after hashes (gathered_edits hashes fields take make mains) file
     ≡ option_map (λ _. grown) file

@@ -8,12 +8,11 @@ use Rattle.std.proofs.lemmas.List.{length-map, map-append}
 use Rattle.acct_text.specs.Lines.{Line}
 use Rattle.account_model.specs.declared.records.GroupRecord.{GroupRecord}
 use Rattle.account_model.specs.Format.{Format, has_named, records_of}
-use Rattle.account_model.specs.Tables.{table_records}
+use Rattle.account_model.specs.Tables.{table_records, table_lines}
 use Rattle.account_model.specs.Ids.{is_used}
 use Rattle.acct_tables.specs.NameIndex.{IsLineNoted, TellsOf, Told, begins_before, line_name, line_names, told}
 use Rattle.acct_tables.proofs.NameIndexLemmas.{told-line}
 use Rattle.acct_tables.proofs.NamedRecords.{told-before, told-has}
-use Rattle.acct_tables.specs.TablesOfLines.{lines_in}
 use Rattle.acct_tables.proofs.FileLemmas.{records-in}
 use Rattle.check_reports.specs.declared.known.NamedFile.{NamedFile}
 use Rattle.check_reports.specs.Known.{IsWhole, has_gid}
@@ -33,7 +32,7 @@ module _ {R : Type 0} (format : Format R) where
       → is_some (told table.names name)
       ≡ has_named format name (table_records format table.file.now)
   has_told table name whole =
-      let lines = lines_in table.file.now in
+      let lines = table_lines table.file.now in
       ap is_some (whole name)
       ∙ told-has format name lines
       ∙ ap (has_named format name) (records-in format lines table.file.now (λ i. lines))

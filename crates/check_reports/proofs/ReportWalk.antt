@@ -17,7 +17,7 @@ use Rattle.account_model.specs.Problems.{DuplicateName, InvalidEntry, Located, P
 use Rattle.acct_tables.specs.declared.name_index.NameIndex.{NameIndex}
 use Rattle.acct_tables.specs.NameIndex.{IsLineNoted, TellsOf, TellsAtMost, begins_before, line_name, line_names, told}
 use Rattle.acct_tables.proofs.NameIndexLemmas.{told-within}
-use Rattle.acct_tables.specs.TablesOfLines.{lines_in}
+use Rattle.account_model.specs.Tables.{table_lines}
 use Rattle.check_reports.specs.declared.known.NamedFile.{NamedFile}
 use Rattle.check_reports.specs.declared.report.Checked.{Checked}
 use Rattle.check_reports.specs.declared.report.Report.{Report}
@@ -142,16 +142,16 @@ module _ {R : Type 0} (format : Format R) (problems : RecordProblems R)
 -- the report of the lines of a file is that of its table
 pub report-in-lines :
     {R : Type 0} (format : Format R) (problems : RecordProblems R) (file : Option (List ℕ))
-    → problems_behind format problems [] (lines_in file) ≡ table_problems format problems file
+    → problems_behind format problems [] (table_lines file) ≡ table_problems format problems file
 report-in-lines format problems None = refl
 report-in-lines format problems (Some bytes) = refl
 
 -- a report of so many lines, whose names are noted, is with the problems of those left the whole
 pub record IsReported {R : Type 0} (format : Format R) (problems : RecordProblems R) (tab : Tab)
     (table : NamedFile) (left : List Line) (place : ℕ) (report total : Report) : Type 0 where
-  pub taken : HaveTaken (lines_in table.file.now) left
+  pub taken : HaveTaken (table_lines table.file.now) left
   pub counted : place ≡ length taken.done
-  pub fits : length (lines_in table.file.now) < 2 ^ 64
+  pub fits : length (table_lines table.file.now) < 2 ^ 64
   pub noted : HasNoted format taken.done table
   pub so_far : with_problems tab (problems_behind format problems taken.done left) report ≡ total
 
@@ -160,7 +160,7 @@ module _ {R : Type 0} (format : Format R) (problems : RecordProblems R) (tab : T
     (is : IsReported format problems tab table left place report total) where
   -- all lines
   abbrev all : List Line
-  all = lines_in table.file.now
+  all = table_lines table.file.now
 
   -- the lines so far
   abbrev done : List Line

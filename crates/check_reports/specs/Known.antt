@@ -6,7 +6,7 @@ use Rattle.account_model.specs.declared.records.GroupRecord.{GroupRecord}
 use Rattle.account_model.specs.Format.{Format, has_named}
 use Rattle.acct_tables.specs.declared.name_index.NameIndex.{NameIndex}
 use Rattle.acct_tables.specs.NameIndex.{IsLineNoted, TellsOf, begins_before, line_names, told}
-use Rattle.acct_tables.specs.TablesOfLines.{lines_in}
+use Rattle.account_model.specs.Tables.{table_lines}
 use Rattle.check_reports.specs.declared.known.NamedFile.{NamedFile}
 
 -- some of the groups has the GID
@@ -15,7 +15,7 @@ has_gid groups gid = list_any (λ group. group.gid == gid) groups
 
 -- the lines whose names are kept: all of the file, or those that were checked
 abbrev pub kept_lines : NamedFile → List Line → List Line
-kept_lines table done = if table.is_whole then lines_in table.file.now else done
+kept_lines table done = if table.is_whole then table_lines table.file.now else done
 
 -- the names that are kept are those of the lines that were checked, or of all
 abbrev pub HasNoted : {R : Type 0} → Format R → List Line → NamedFile → Type 0
@@ -23,7 +23,7 @@ HasNoted format done table = TellsOf (line_names format (kept_lines table done))
 
 -- the names that are kept are those of all records
 abbrev pub IsWhole : {R : Type 0} → Format R → NamedFile → Type 0
-IsWhole format table = TellsOf (line_names format (lines_in table.file.now)) (told table.names)
+IsWhole format table = TellsOf (line_names format (table_lines table.file.now)) (told table.names)
 
 -- the line at this place is noted by its name, or by none, where the names of all aren't there
 pub record NotesLine (name : Option (List ℕ)) (place : ℕ) (old new : NamedFile) : Type 0 where

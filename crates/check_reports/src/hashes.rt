@@ -4,7 +4,7 @@ ghost use Rattle.std.specs.Prelude.{◌≡◌, [], Some, option_map, IfOk, IfSom
 ghost use Rattle.account_model.specs.Faults.{shadow_fault};
 ghost use Rattle.account_model.specs.Records.{shadow_format};
 ghost use Rattle.acct_tables.specs.NameIndex.{TellsOf, line_names, told};
-ghost use Rattle.acct_tables.specs.TablesOfLines.{lines_in};
+ghost use Rattle.account_model.specs.Tables.{table_lines};
 ghost use Rattle.check_reports.specs.Hashes.{hash_in, seen_hash};
 
 use acct_lines::{LineFault, ShadowLine, first_field};
@@ -72,7 +72,7 @@ impl<'a> HashLines<'a> {
         names: &mut NameIndex<'a>,
     ) -> Result<Self, AllocError>
         requires { TellsOf [] (told names.old) }
-        ensures { IfOk result (λ _. TellsOf (line_names shadow_format (lines_in file.now))
+        ensures { IfOk result (λ _. TellsOf (line_names shadow_format (table_lines file.now))
             (told names.new)) }
     {
         let mut lines = Vec::new(alloc);

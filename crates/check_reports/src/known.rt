@@ -3,10 +3,9 @@ ghost use Rattle.std.specs.Prelude.{◌≡◌, ◌+◌, ◌^◌, ◌<◌, [], fa
 ghost use Rattle.std.specs.Option.{option_copied};
 ghost use Rattle.account_model.specs.Format.{has_named};
 ghost use Rattle.account_model.specs.Records.{group_format, gshadow_format, passwd_format, shadow_format};
-ghost use Rattle.account_model.specs.Tables.{table_records};
+ghost use Rattle.account_model.specs.Tables.{table_records, table_lines};
 ghost use Rattle.acct_tables.specs.NameIndex.{TellsOf, TellsAtMost, line_names, told};
 ghost use Rattle.id_choice.specs.Used.{AreThoseOf};
-ghost use Rattle.acct_tables.specs.TablesOfLines.{lines_in};
 ghost use Rattle.check_reports.specs.Known.{HasNoted, IsWhole, NotesLine, has_gid};
 
 use crate::hashes::HashLines;
@@ -63,7 +62,7 @@ impl<'a> NamedFile<'a> {
 
     /// The file with these names of all its records.
     pub(crate) fn with<R: TableRecord>(file: &'a Option<Bytes>, names: NameIndex<'a>) -> Self
-        requires { TellsOf (line_names R.format (lines_in file.now)) (told names) }
+        requires { TellsOf (line_names R.format (table_lines file.now)) (told names) }
         ensures of_file { result.file.now ≡ file.now }
         ensures whole { IsWhole R.format result }
         ensures noted { HasNoted R.format [] result }

@@ -5,10 +5,9 @@ ghost use Rattle.std.specs.Option.{option_copied};
 ghost use Rattle.acct_text.specs.Lines.{file_bytes, lines_of};
 ghost use Rattle.account_model.specs.Format.{records_of};
 ghost use Rattle.account_model.specs.Edits.{Become, becomes, edited, first_multiple, line_becomes, touches};
-ghost use Rattle.account_model.specs.Tables.{table_records};
+ghost use Rattle.account_model.specs.Tables.{table_records, table_lines};
 ghost use Rattle.acct_tables.specs.NameIndex.{TellsAtMost, are_several, told};
 ghost use Rattle.acct_tables.specs.SeenLines.{seen_line};
-ghost use Rattle.acct_tables.specs.TablesOfLines.{lines_in};
 ghost use Rattle.check_reports.specs.LineChanges.{met_in};
 ghost use Rattle.check_reports.specs.Secrets.{HasSecrets};
 ghost use Rattle.check_reports.specs.Sorted.{IsOrderOf};
@@ -62,7 +61,7 @@ pub(crate) fn walk<'a, R: TableRecord, L: AccountLine<'a, R>, C: LineChange<'a, 
     ensures secrets { IfOk result (λ walked.
         HasSecrets R.format L.secret (table_records R.format file.now) walked.secrets) }
     ensures text { IfOk result (λ walked. walked.text ≡ file_bytes
-        (edited R.format (lines_in file.now) (Become (C.change change.now)))) }
+        (edited R.format (table_lines file.now) (Become (C.change change.now)))) }
 {
     let text = text_of(file);
     let mut walked = Walked {

@@ -5,7 +5,7 @@ use Rattle.account_model.specs.Edits.{becomes}
 use Rattle.account_model.specs.Format.{records_of}
 use Rattle.acct_tables.specs.SeenLines.{seen_line}
 use Rattle.acct_tables.proofs.LinesAhead.{walked, walked-all}
-use Rattle.acct_tables.specs.TablesOfLines.{lines_in}
+use Rattle.account_model.specs.Tables.{table_lines}
 use Rattle.acct_tables.proofs.FileLemmas.{records-in}
 use Rattle.check_reports.specs.Secrets.{HasSecrets}
 use Rattle.check_reports.proofs.PlaceLemmas.{order-within, place-fits}
@@ -62,7 +62,7 @@ returns-clause-secrets g c =
     (ap (records_of format) (sym (append-nil taken.done)
     ∙ ap (λ left. taken.done ++ left) (sym c.in_default.ensures.taken)
     ∙ taken.joined)
-    ∙ records-in format (lines_in c.args.file.now) c.args.file.now refl)
+    ∙ records-in format (table_lines c.args.file.now) c.args.file.now refl)
     c.lines.invariant.kept
 
 pub returns-clause-text : goal.returns-clause-text

@@ -4,8 +4,7 @@ use Rattle.acct_text.specs.Lines.{lines_of}
 use Rattle.account_model.specs.Edits.{edited_by}
 use Rattle.account_model.specs.Format.{records_of}
 use Rattle.account_model.specs.RecordEdits.{IsWrittenEdit}
-use Rattle.account_model.specs.Tables.{table_records}
-use Rattle.acct_tables.specs.TablesOfLines.{lines_in}
+use Rattle.account_model.specs.Tables.{table_records, table_lines}
 use Rattle.check_reports.specs.Gathered.{IsGrown, made_edits}
 use Rattle.check_reports.proofs.RecordWalk.{HaveTaken}
 use Rattle.check_reports.proofs.making.with_missing.Given as goal
@@ -17,7 +16,7 @@ invariant-lines g l =
     let format = g.H.TableRecord.format in
     let make = g.T.Making.make l.making in
     record {
-      taken : HaveTaken (lines_in l.main) l.left;
+      taken : HaveTaken (table_lines l.main) l.left;
       grown : IsGrown main format (records_of main taken.done) l.grown;
       written : AllByRecursion (IsWrittenEdit format) (made_edits make (records_of main l.left));
       so_far : edited_by format (made_edits make (records_of main l.left)) (lines_of l.grown.text)

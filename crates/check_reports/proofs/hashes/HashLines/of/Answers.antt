@@ -5,7 +5,7 @@ use Rattle.acct_tables.specs.NameIndex.{IsNoted, TellsOf, TellsAtMost, line_name
 use Rattle.acct_tables.specs.SeenLines.{seen_line}
 use Rattle.acct_tables.proofs.LinesCounted.{lines-counted}
 use Rattle.acct_tables.proofs.NameIndexLemmas.{names-many, names-more, next-behind, next-inside, none-left, told-other, told-record, told-within}
-use Rattle.acct_tables.specs.TablesOfLines.{lines_in}
+use Rattle.account_model.specs.Tables.{table_lines}
 use Rattle.check_reports.proofs.HashLemmas.{hash_name, hash-named}
 use Rattle.check_reports.proofs.hashes.HashLines.of.Goals as goal
 use Rattle.check_reports.proofs.hashes.HashLines.of.Goals.{in-Some-hash+in_ok-add, in_default-hash}
@@ -15,7 +15,7 @@ lines-init c = record { so_far = c.of-left.ensures ∙ c.text_of.ensures; tells 
 
 pub add-requires-clause-behind : goal.add-requires-clause-behind
 add-requires-clause-behind c =
-    let all = lines_in c.args.file.now in
+    let all = table_lines c.args.file.now in
     let place = c.lines.place in
     let old = told c.lines.names in
     subst (λ n. TellsAtMost n old)
@@ -29,7 +29,7 @@ add-requires-clause-room c =
       arith,
       lines-counted c.text_of.result.now,
       ap length c.text_of.ensures,
-      next-inside shadow_format (lines_in c.args.file.now) c.lines.left c.take.new.self
+      next-inside shadow_format (table_lines c.args.file.now) c.lines.left c.take.new.self
           c.lines.place (seen_line c.in-Some.line) c.lines.invariant.so_far
           c.in-Some.ensures.taken,
     )
@@ -40,14 +40,14 @@ overflow_add-place c =
       arith,
       lines-counted c.text_of.result.now,
       ap length c.text_of.ensures,
-      next-inside shadow_format (lines_in c.args.file.now) c.lines.left c.take.new.self
+      next-inside shadow_format (table_lines c.args.file.now) c.lines.left c.take.new.self
           c.lines.place (seen_line c.in-Some.line) c.lines.invariant.so_far
           c.in-Some.ensures.taken,
     )
 
 pub lines-preserved : goal.lines-preserved
 lines-preserved c =
-    let all = lines_in c.args.file.now in
+    let all = table_lines c.args.file.now in
     let place = c.lines.place in
     let line = seen_line c.in-Some.line in
     let names = line_names shadow_format (take place all) in
@@ -85,6 +85,6 @@ lines-smaller c = omega (arith, ap length c.in-Some.ensures.taken)
 pub returns : goal.returns
 returns c =
     subst (λ lines. TellsOf (line_names shadow_format lines) (told c.lines.names))
-    (none-left (lines_in c.args.file.now) c.lines.place
+    (none-left (table_lines c.args.file.now) c.lines.place
     (sym c.lines.invariant.so_far ∙ c.in_default.ensures.taken))
     c.lines.invariant.tells

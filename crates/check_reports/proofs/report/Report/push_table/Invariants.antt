@@ -1,6 +1,6 @@
 use Rattle.std.proofs.Common.{◌≡◌, [], length}
 use Rattle.account_model.specs.Problems.{problems_behind}
-use Rattle.acct_tables.specs.TablesOfLines.{lines_in}
+use Rattle.account_model.specs.Tables.{table_lines}
 use Rattle.check_reports.specs.Reported.{with_problems}
 use Rattle.check_reports.proofs.ReportWalk.{IsReported}
 use Rattle.check_reports.proofs.report.Report.push_table.Given as goal
@@ -14,7 +14,7 @@ invariant-lines g l =
       of_file : l.table.file ≡ l.initial.table.file;
       reported : IsReported format problems l.tab l.table l.left l.place l.self
           (with_problems l.tab (problems_behind format problems []
-          (lines_in l.initial.table.file.now)) l.initial.self);
+          (table_lines l.initial.table.file.now)) l.initial.self);
     }
 
 abbrev pub decreases-lines : goal.decreases-lines

@@ -1,7 +1,7 @@
 use Rattle.std.proofs.Common.{◌∙◌, ◌++◌, [], append-nil, length, refl, sym, ap, subst, arith}
 use Rattle.account_model.specs.Format.{records_of}
 use Rattle.acct_tables.specs.SeenLines.{seen_line}
-use Rattle.acct_tables.specs.TablesOfLines.{lines_in}
+use Rattle.account_model.specs.Tables.{table_lines}
 use Rattle.acct_tables.proofs.FileLemmas.{records-in}
 use Rattle.check_reports.specs.Sorted.{IsOrderOf}
 use Rattle.check_reports.proofs.PlaceLemmas.{order-other, order-record, order-within, place-fits}
@@ -66,5 +66,5 @@ returns g c =
     (ap (records_of format) (sym (append-nil taken.done)
     ∙ ap (λ left. taken.done ++ left) (sym c.in_default.ensures.taken)
     ∙ taken.joined)
-    ∙ records-in format (lines_in c.args.main.now) c.args.main.now refl)
+    ∙ records-in format (table_lines c.args.main.now) c.args.main.now refl)
     c.lines.invariant.so_far
