@@ -2,9 +2,11 @@
 use Prim.Native.String.{String}
 use Rattle.std.specs.Prelude.{◌≡◌, ℕ, ◌==◌, List, [], ◌∷◌, map, ◌++◌, codes, Option, Some, None, Result, Ok, Err}
 use Rattle.std.specs.List.{slice_split}
+use Rattle.std.specs.Str.{byte}
 use Rattle.acct_text.specs.declared.files.Files.{Files}
 use Rattle.account_model.specs.declared.word_fault.WordFault.{WordFault}
 use Rattle.account_model.specs.declared.refusal.Refusal.{Refusal}
+use Rattle.account_model.specs.declared.refusal.Refusal.TheVariants.{BadValue}
 use Rattle.acct_text.specs.Bytes.{newline}
 use Rattle.account_model.specs.Words.{request_of}
 use Rattle.account_model.specs.Answer.{Answer, FileProblem, answer, Unusable, Refused, Same, Changed}
@@ -61,15 +63,16 @@ abbrev pub same : Result Answer WordFault
 same = Ok (record { cause = Same; status = 0; output = []; error = [] })
 
 -- a refusal, with its status and its line on the error stream
+abbrev refused_with : ℕ → Refusal → List ℕ → Result Answer WordFault
+refused_with status refusal text = Ok (record {
+  cause = Refused refusal;
+  status = status;
+  output = [];
+  error = text ++ newline ∷ [];
+})
+
 abbrev pub refused : ℕ → Refusal → String → Result Answer WordFault
-refused status refusal text =
-    Ok (record {
-      cause = Refused refusal;
-      status = status;
-      output = [];
-      error = codes
-          text ++ newline ∷ [];
-    })
+refused status refusal text = refused_with status refusal (codes text)
 
 -- each of these answers is the one beside it
 abbrev pub AreAnswered : List (Result Answer WordFault × Result Answer WordFault) → Type 0
@@ -79,6 +82,16 @@ AreAnswered rows = map (λ row. row.0) rows ≡ map (λ row. row.1) rows
 abbrev pub refusing : String → ℕ → Refusal → String
     → Result Answer WordFault × Result Answer WordFault
 refusing command status refusal text = (on image (words command), refused status refusal text)
+
+-- a command of a tool that is refused there as the value of an option isn't of the form
+abbrev pub refusing_value : String → String → String → String → List ℕ
+    → Result Answer WordFault × Result Answer WordFault
+refusing_value tool rest letter value form = (
+  on image (codes tool ∷ words rest),
+  refused_with 3 (BadValue (byte letter) (codes value))
+      (codes tool ++ codes ": invalid value for -" ++ codes letter ++ codes ": " ++ codes value
+      ++ codes " (" ++ form ++ codes ")"),
+)
 
 -- tables that can't be used, with the status and the line on the error stream
 abbrev pub unusable : ℕ → FileProblem → String → Result Answer WordFault

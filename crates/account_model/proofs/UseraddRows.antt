@@ -1,15 +1,15 @@
 -- useradd from its words to its answer, each row decided by computing.
 use Rattle.std.specs.Prelude.{◌≡◌, [], ◌∷◌, ◌++◌, codes, refl, Some, Err}
 use Rattle.std.specs.Fmt.{digits}
-use Rattle.std.specs.Str.{byte}
 use Rattle.acct_text.specs.declared.Tab.TheVariants.{Shadow, Group, Gshadow, Subuid, Subgid}
-use Rattle.account_model.specs.declared.refusal.Refusal.TheVariants.{BadName, BadKey, BadValue, UserExists, GroupExists, NoGroup, UidInUse, NoFreeUid, NoFreeGid, NoGap, Multiple}
+use Rattle.account_model.specs.declared.refusal.Refusal.TheVariants.{BadName, BadKey, UserExists, GroupExists, NoGroup, UidInUse, NoFreeUid, NoFreeGid, NoGap, Multiple}
 use Rattle.acct_text.specs.Bytes.{newline}
 use Rattle.account_model.specs.declared.word_fault.WordFault.TheVariants.{UnknownOption}
 use Rattle.account_model.specs.Answer.{BadSettingAt}
+use Rattle.account_model.specs.ValueForms.{date_form, days_form, field_form, id_form, path_form}
 use Rattle.account_model.proofs.Image.{image, image_passwd, image_shadow}
 use Rattle.account_model.proofs.SettingsImage.{file}
-use Rattle.account_model.proofs.Commands.{words, lines, answer_to, on, plainly_on, changed, changed_with, refused, unusable, image_group_with, image_gshadow_with, with_ann, image_and, small, nothing, AreAnswered, refusing}
+use Rattle.account_model.proofs.Commands.{words, lines, answer_to, on, plainly_on, changed, changed_with, refused, unusable, image_group_with, image_gshadow_with, with_ann, image_and, small, nothing, AreAnswered, refusing, refusing_value}
 
 -- `useradd -P R -c "Ann Lee" -G sudo ann`: a user with a comment and a group
 new_user : on image (words "useradd -P R -c" ++ codes "Ann Lee" ∷ words "-G sudo ann")
@@ -213,27 +213,17 @@ refusals : AreAnswered (
     "useradd: invalid name: 12 (1 to 32 letters, digits, _ . or -, not - first, not digits alone)"
     ∷ refusing "useradd -P R -K UID_MIN=5 -K UMASK=1 -K x -c : bob" 3 (BadKey (codes "UMASK=1"))
     "useradd: invalid setting: UMASK=1 (KEY=VALUE, with a key that accounts-useradd(8) lists)"
-    ∷ refusing "useradd -P R -u 4294967295 -p a:b -s sh -f -2 -e x -b : -d home -c : bob"
-    3 (BadValue (byte "c") (codes ":"))
-    "useradd: invalid value for -c: : (no : and no newline)"
-    ∷ refusing "useradd -P R -u 4294967295 -p a:b -s sh -f -2 -e x -b : -d home bob"
-    3 (BadValue (byte "d") (codes "home"))
-    "useradd: invalid value for -d: home (a path that begins with /, no : and no newline)"
-    ∷ refusing "useradd -P R -u 4294967295 -p a:b -s sh -f -2 -e x -b : bob"
-    3 (BadValue (byte "b") (codes ":"))
-    "useradd: invalid value for -b: : (a path that begins with /, no : and no newline)"
-    ∷ refusing "useradd -P R -u 4294967295 -p a:b -s sh -f -2 -e x bob"
-    3 (BadValue (byte "e") (codes "x"))
-    "useradd: invalid value for -e: x (a date as 2026-01-31, days since 1970-01-01, or -1)"
-    ∷ refusing "useradd -P R -u 4294967295 -p a:b -s sh -f -2 bob"
-    3 (BadValue (byte "f") (codes "-2"))
-    "useradd: invalid value for -f: -2 (-1 or a number from 0 to 2147483647)"
-    ∷ refusing "useradd -P R -u 4294967295 -p a:b -s sh bob" 3 (BadValue (byte "s") (codes "sh"))
-    "useradd: invalid value for -s: sh (a path that begins with /, no : and no newline)"
-    ∷ refusing "useradd -P R -u 4294967295 -p a:b bob" 3 (BadValue (byte "p") (codes "a:b"))
-    "useradd: invalid value for -p: a:b (no : and no newline)"
-    ∷ refusing "useradd -P R -u 4294967295 bob" 3 (BadValue (byte "u") (codes "4294967295"))
-    "useradd: invalid value for -u: 4294967295 (a number from 0 to 4294967294)"
+    ∷ refusing_value "useradd" "-P R -u 4294967295 -p a:b -s sh -f -2 -e x -b : -d home -c : bob"
+    "c" ":" field_form
+    ∷ refusing_value "useradd" "-P R -u 4294967295 -p a:b -s sh -f -2 -e x -b : -d home bob"
+    "d" "home" path_form
+    ∷ refusing_value "useradd" "-P R -u 4294967295 -p a:b -s sh -f -2 -e x -b : bob"
+    "b" ":" path_form
+    ∷ refusing_value "useradd" "-P R -u 4294967295 -p a:b -s sh -f -2 -e x bob" "e" "x" date_form
+    ∷ refusing_value "useradd" "-P R -u 4294967295 -p a:b -s sh -f -2 bob" "f" "-2" days_form
+    ∷ refusing_value "useradd" "-P R -u 4294967295 -p a:b -s sh bob" "s" "sh" path_form
+    ∷ refusing_value "useradd" "-P R -u 4294967295 -p a:b bob" "p" "a:b" field_form
+    ∷ refusing_value "useradd" "-P R -u 4294967295 bob" "u" "4294967295" id_form
     ∷ refusing "useradd -P R -g nope bob" 9 (UserExists (codes "bob")) "useradd: user bob exists"
     ∷ refusing "useradd -P R -g nope -G none ann" 6 (NoGroup (codes "nope"))
     "useradd: unknown group nope"

@@ -4,8 +4,9 @@ use Rattle.std.specs.Fmt.{digits}
 use Rattle.std.specs.Str.{byte}
 use Rattle.acct_text.specs.declared.Tab.TheVariants.{Subuid}
 use Rattle.account_model.specs.declared.refusal.Refusal.TheVariants.{BadName, BadValue, UserExists, NoUser, NoGroup, UidInUse, Meets, EmptyHash}
+use Rattle.account_model.specs.ValueForms.{date_form, days_form, field_form, id_form, name_form, path_form, range_form}
 use Rattle.account_model.proofs.Image.{image}
-use Rattle.account_model.proofs.Commands.{words, lines, on, plainly_on, same, refused, small, AreAnswered, refusing}
+use Rattle.account_model.proofs.Commands.{words, lines, on, plainly_on, same, refused, small, AreAnswered, refusing, refusing_value}
 
 -- `usermod -P R -W 1-4294967295 -w 1- -V 1 -v 2-1 -u -1 -l -x -p a:b -s sh -f -2 -e x -d home -c : ann`: the refusals of usermod, in their order
 usermod_value_c : on image (words "usermod -P R -W 1-4294967295 -w 1- -V 1 -v 2-1 -u -1 -l -x"
@@ -25,36 +26,23 @@ usermod_value_d = refl
 
 -- what is refused on the image
 refusals : AreAnswered (
-    refusing "usermod -P R -W 1-4294967295 -w 1- -V 1 -v 2-1 -u -1 -l -x -p a:b -s sh -f -2 -e x ann"
-    3 (BadValue (byte "e") (codes "x"))
-    "usermod: invalid value for -e: x (a date as 2026-01-31, days since 1970-01-01, or -1)"
-    ∷ refusing "usermod -P R -W 1-4294967295 -w 1- -V 1 -v 2-1 -u -1 -l -x -p a:b -s sh -f -2 ann"
-    3 (BadValue (byte "f") (codes "-2"))
-    "usermod: invalid value for -f: -2 (-1 or a number from 0 to 2147483647)"
-    ∷ refusing "usermod -P R -W 1-4294967295 -w 1- -V 1 -v 2-1 -u -1 -l -x -p a:b -s sh ann"
-    3 (BadValue (byte "s") (codes "sh"))
-    "usermod: invalid value for -s: sh (a path that begins with /, no : and no newline)"
-    ∷ refusing "usermod -P R -W 1-4294967295 -w 1- -V 1 -v 2-1 -u -1 -l -x -p a:b ann"
-    3 (BadValue (byte "p") (codes "a:b"))
-    "usermod: invalid value for -p: a:b (no : and no newline)"
-    ∷ refusing "usermod -P R -W 1-4294967295 -w 1- -V 1 -v 2-1 -u -1 -l -x ann"
-    3 (BadValue (byte "l") (codes "-x"))
-    "usermod: invalid value for -l: -x (1 to 32 letters, digits, _ . or -, not - first, not digits alone)"
-    ∷ refusing "usermod -P R -W 1-4294967295 -w 1- -V 1 -v 2-1 -u -1 ann"
-    3 (BadValue (byte "u") (codes "-1"))
-    "usermod: invalid value for -u: -1 (a number from 0 to 4294967294)"
-    ∷ refusing "usermod -P R -W 1-4294967295 -w 1- -V 1 -v 2-1 ann"
-    3 (BadValue (byte "v") (codes "2-1"))
-    "usermod: invalid value for -v: 2-1 (FIRST-LAST, two IDs)"
-    ∷ refusing "usermod -P R -W 1-4294967295 -w 1- -V 1 ann" 3 (BadValue (byte "V") (codes "1"))
-    "usermod: invalid value for -V: 1 (FIRST-LAST, two IDs)"
-    ∷ refusing "usermod -P R -W 1-4294967295 -w 1- ann" 3 (BadValue (byte "w") (codes "1-"))
-    "usermod: invalid value for -w: 1- (FIRST-LAST, two IDs)"
-    ∷ refusing "usermod -P R -W 1-4294967295 ann" 3 (BadValue (byte "W") (codes "1-4294967295"))
-    "usermod: invalid value for -W: 1-4294967295 (FIRST-LAST, two IDs)"
+    refusing_value "usermod" "-P R -W 1-4294967295 -w 1- -V 1 -v 2-1 -u -1 -l -x -p a:b -s sh -f -2 -e x ann"
+    "e" "x" date_form
+    ∷ refusing_value "usermod" "-P R -W 1-4294967295 -w 1- -V 1 -v 2-1 -u -1 -l -x -p a:b -s sh -f -2 ann"
+    "f" "-2" days_form
+    ∷ refusing_value "usermod" "-P R -W 1-4294967295 -w 1- -V 1 -v 2-1 -u -1 -l -x -p a:b -s sh ann"
+    "s" "sh" path_form
+    ∷ refusing_value "usermod" "-P R -W 1-4294967295 -w 1- -V 1 -v 2-1 -u -1 -l -x -p a:b ann"
+    "p" "a:b" field_form
+    ∷ refusing_value "usermod" "-P R -W 1-4294967295 -w 1- -V 1 -v 2-1 -u -1 -l -x ann"
+    "l" "-x" name_form
+    ∷ refusing_value "usermod" "-P R -W 1-4294967295 -w 1- -V 1 -v 2-1 -u -1 ann" "u" "-1" id_form
+    ∷ refusing_value "usermod" "-P R -W 1-4294967295 -w 1- -V 1 -v 2-1 ann" "v" "2-1" range_form
+    ∷ refusing_value "usermod" "-P R -W 1-4294967295 -w 1- -V 1 ann" "V" "1" range_form
+    ∷ refusing_value "usermod" "-P R -W 1-4294967295 -w 1- ann" "w" "1-" range_form
+    ∷ refusing_value "usermod" "-P R -W 1-4294967295 ann" "W" "1-4294967295" range_form
     -- each range counts
-    ∷ refusing "usermod -P R -v 5 -v 1-2 ann" 3 (BadValue (byte "v") (codes "5"))
-    "usermod: invalid value for -v: 5 (FIRST-LAST, two IDs)"
+    ∷ refusing_value "usermod" "-P R -v 5 -v 1-2 ann" "v" "5" range_form
     ∷ refusing "usermod -P R -l root ann" 6 (NoUser (codes "ann")) "usermod: unknown user ann"
     ∷ refusing "usermod -P R -l root -u 0 bob" 9 (UserExists (codes "root"))
     "usermod: user root exists"
