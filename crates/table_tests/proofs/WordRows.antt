@@ -1,14 +1,7 @@
 -- Rows of words and what they ask for, beside those of account_model (getopt_long(3)).
-use Prim.Native.String.{String}
-use Rattle.std.specs.Prelude.{◌≡◌, ◌==◌, List, [], ◌∷◌, replicate, Some, None, Result, Ok, codes, refl, true, false}
-use Rattle.std.specs.List.{slice_split}
-use Rattle.std.specs.Str.{byte}
-use Rattle.account_model.specs.declared.tool.Tool.{Tool}
+use Rattle.std.specs.Prelude.{◌≡◌, [], ◌∷◌, replicate, Some, None, Ok, codes, refl, true, false}
 use Rattle.account_model.specs.declared.tool.Tool.TheVariants.{Useradd, Usermod, Groupadd, Chage, Chpasswd, Grpck}
-use Rattle.account_model.specs.declared.word_fault.WordFault.{WordFault}
 use Rattle.account_model.specs.declared.word_fault.WordFault.TheVariants.{WordLimit, UnknownTool, UnknownOption, MissingValue, TooMany, TooFew, Clash}
-use Rattle.account_model.specs.Options.{Word}
-use Rattle.account_model.specs.declared.given.Given.{Given}
 use Rattle.account_model.specs.declared.settings.Kind.TheVariants.{System}
 use Rattle.account_model.specs.NewAccount.{kind_of}
 use Rattle.account_model.specs.Request.{Request, has_option, operand, value_of, values_of}
