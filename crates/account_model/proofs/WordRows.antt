@@ -38,143 +38,79 @@ request tool options operands = Ok (record {
 abbrev pub one : String → List Word
 one operand = codes operand ∷ []
 
--- a value apart and a value in the word
-asks_useradd :
-    request_of (words_of "useradd -P R -c Ann -Gsudo ann")
-    ≡ request Useradd (valued "c" "Ann" ∷ valued "G" "sudo" ∷ []) (one "ann")
-asks_useradd = refl
+-- what each of these texts asks for
+abbrev pub AskedAre : List (Result Request WordFault × Result Request WordFault) → Type 0
+AskedAre rows = map (λ row. row.0) rows ≡ map (λ row. row.1) rows
 
--- long names, with a value apart and behind `=`
-asks_useradd_2 :
-    request_of (words_of "useradd --prefix=R --comment Ann --gid= --system ann")
-    ≡ request Useradd (valued "c" "Ann" ∷ valued "g" "" ∷ flagged "r" ∷ []) (one "ann")
-asks_useradd_2 = refl
+-- a text, with the tool, the options and the operands that it asks for
+abbrev pub asking : String → Tool → List Given → List Word
+    → Result Request WordFault × Result Request WordFault
+asking text tool options operands = (request_of (words_of text), request tool options operands)
 
--- a bundle whose last letter takes the rest as its value
-asks_usermod :
-    request_of (words_of "usermod -P R -aGsudo www-data")
-    ≡ request Usermod (flagged "a" ∷ valued "G" "sudo" ∷ []) (one "www-data")
-asks_usermod = refl
-
--- a bundle whose last letter takes the next word, which begins with `-`
-asks_useradd_3 :
-    request_of (words_of "useradd -rMP R -u -1 ann")
-    ≡ request Useradd (flagged "r" ∷ flagged "M" ∷ valued "u" "-1" ∷ []) (one "ann")
-asks_useradd_3 = refl
-
--- options behind the operand, and the last of a repeated prefix
-asks_userdel :
-    request_of (words_of "userdel ann -P Q -f -P R")
-    ≡ request Userdel (flagged "f" ∷ []) (one "ann")
-asks_userdel = refl
-
--- `-R` is `-P`, and so is `--root`; the last of them counts
-asks_userdel_2 :
-    request_of (words_of "userdel ann -P Q -R S --root R")
-    ≡ request Userdel [] (one "ann")
-asks_userdel_2 = refl
-
--- of gpasswd `-Q` is, as `-R` restricts the group
-asks_gpasswd_3 :
-    request_of (words_of "gpasswd -Q R -R sudo")
-    ≡ request Gpasswd (flagged "R" ∷ []) (one "sudo")
-asks_gpasswd_3 = refl
-
--- `--` ends the options, and `-` alone is an operand
-asks_groupdel : request_of (words_of "groupdel -P R -- -f") ≡ request Groupdel ([]) (one "-f")
-asks_groupdel = refl
-
--- `-` alone, without `--`
-asks_groupdel_2 : request_of (words_of "groupdel -P R -") ≡ request Groupdel ([]) (one "-")
-asks_groupdel_2 = refl
-
--- an empty value in the next word, and an option that stands twice
-asks_gpasswd :
-    request_of (words_of "gpasswd -P R -A  -A bob sudo")
-    ≡ request Gpasswd (valued "A" "" ∷ valued "A" "bob" ∷ []) (one "sudo")
-asks_gpasswd = refl
-
--- a letter means what the tool says: `-l` of usermod takes a value, and `-l` of chage is a flag
-asks_usermod_2 :
-    request_of (words_of "usermod -P R -l bea ann")
-    ≡ request Usermod (valued "l" "bea" ∷ []) (one "ann")
-asks_usermod_2 = refl
-
--- and `-l` of chage is the flag
-asks_chage :
-    request_of (words_of "chage -P R -l bob") ≡ request Chage (flagged "l" ∷ []) (one "bob")
-asks_chage = refl
-
--- `-h` of chfn takes a value
-asks_chfn :
-    request_of (words_of "chfn -P R -h5 --other a,b=c bob")
-    ≡ request Chfn (valued "h" "5" ∷ valued "o" "a,b=c" ∷ []) (one "bob")
-asks_chfn = refl
-
--- no operands
-asks_chpasswd : request_of (words_of "chpasswd -P R -e") ≡ request Chpasswd (flagged "e" ∷ []) []
-asks_chpasswd = refl
-
-asks_chgpasswd :
-    request_of (words_of "chgpasswd -P R --encrypted") ≡ request Chgpasswd (flagged "e" ∷ []) []
-asks_chgpasswd = refl
-
--- the group of groupmems is no operand
-asks_groupmems :
-    request_of (words_of "groupmems -P R --group sudo -abob")
-    ≡ request Groupmems (valued "g" "sudo" ∷ valued "a" "bob" ∷ []) []
-asks_groupmems = refl
-
--- batch may have one operand, and may have none
-asks_batch : request_of (words_of "batch -P R") ≡ request Batch [] []
-asks_batch = refl
-
--- which is its file
-asks_batch_2 : request_of (words_of "batch users -P R") ≡ request Batch [] (one "users")
-asks_batch_2 = refl
-
--- a bundle before the prefix, and no operand
-asks_pwck : request_of (words_of "pwck -qr -P R") ≡ request Pwck (flagged "q" ∷ flagged "r" ∷ []) []
-asks_pwck = refl
-
--- a long name that is a flag
-asks_grpck : request_of (words_of "grpck -P R --sort") ≡ request Grpck (flagged "s" ∷ []) []
-asks_grpck = refl
-
--- a bundle whose last letter is the prefix, with the next word
-asks_getsubids :
-    request_of (words_of "getsubids -gP R root") ≡ request Getsubids (flagged "g" ∷ []) (one "root")
-asks_getsubids = refl
-
--- a flag in front of a value, and one behind it
-asks_groupadd :
-    request_of (words_of "groupadd -P R -f -g 27 -o dev")
-    ≡ request Groupadd (flagged "f" ∷ valued "g" "27" ∷ flagged "o" ∷ []) (one "dev")
-asks_groupadd = refl
-
--- two values
-asks_groupmod :
-    request_of (words_of "groupmod -P R -g 2000 -n staff bob")
-    ≡ request Groupmod (valued "g" "2000" ∷ valued "n" "staff" ∷ []) (one "bob")
-asks_groupmod = refl
-
--- the value of an option may be `--`
-asks_usermod_3 :
-    request_of (words_of "usermod -P R -c -- ann")
-    ≡ request Usermod (valued "c" "--" ∷ []) (one "ann")
-asks_usermod_3 = refl
-
--- a long name with `=` twice: the value holds the second
-asks_useradd_4 :
-    request_of (words_of "useradd -P R --key=UID_MIN=5 ann")
-    ≡ request Useradd (valued "K" "UID_MIN=5" ∷ []) (one "ann")
-asks_useradd_4 = refl
-
--- `-A` with `-M` is no clash
-asks_gpasswd_2 :
-    request_of (words_of "gpasswd -P R -A bob -M bob sudo")
-    ≡ request Gpasswd (valued "A" "bob" ∷ valued "M" "bob" ∷ []) (one "sudo")
-asks_gpasswd_2 = refl
+requests : AskedAre (
+    -- a value apart and a value in the word
+    asking "useradd -P R -c Ann -Gsudo ann"
+    Useradd (valued "c" "Ann" ∷ valued "G" "sudo" ∷ []) (one "ann")
+    -- long names, with a value apart and behind `=`
+    ∷ asking "useradd --prefix=R --comment Ann --gid= --system ann"
+    Useradd (valued "c" "Ann" ∷ valued "g" "" ∷ flagged "r" ∷ []) (one "ann")
+    -- a bundle whose last letter takes the rest as its value
+    ∷ asking "usermod -P R -aGsudo www-data"
+    Usermod (flagged "a" ∷ valued "G" "sudo" ∷ []) (one "www-data")
+    -- a bundle whose last letter takes the next word, which begins with `-`
+    ∷ asking "useradd -rMP R -u -1 ann"
+    Useradd (flagged "r" ∷ flagged "M" ∷ valued "u" "-1" ∷ []) (one "ann")
+    -- options behind the operand, and the last of a repeated prefix
+    ∷ asking "userdel ann -P Q -f -P R" Userdel (flagged "f" ∷ []) (one "ann")
+    -- `-R` is `-P`, and so is `--root`; the last of them counts
+    ∷ asking "userdel ann -P Q -R S --root R" Userdel [] (one "ann")
+    -- of gpasswd `-Q` is, as `-R` restricts the group
+    ∷ asking "gpasswd -Q R -R sudo" Gpasswd (flagged "R" ∷ []) (one "sudo")
+    -- `--` ends the options, and `-` alone is an operand
+    ∷ asking "groupdel -P R -- -f" Groupdel [] (one "-f")
+    -- `-` alone, without `--`
+    ∷ asking "groupdel -P R -" Groupdel [] (one "-")
+    -- an empty value in the next word, and an option that stands twice
+    ∷ asking "gpasswd -P R -A  -A bob sudo"
+    Gpasswd (valued "A" "" ∷ valued "A" "bob" ∷ []) (one "sudo")
+    -- a letter means what the tool says: `-l` of usermod takes a value, and `-l` of chage is a flag
+    ∷ asking "usermod -P R -l bea ann" Usermod (valued "l" "bea" ∷ []) (one "ann")
+    -- and `-l` of chage is the flag
+    ∷ asking "chage -P R -l bob" Chage (flagged "l" ∷ []) (one "bob")
+    -- `-h` of chfn takes a value
+    ∷ asking "chfn -P R -h5 --other a,b=c bob"
+    Chfn (valued "h" "5" ∷ valued "o" "a,b=c" ∷ []) (one "bob")
+    -- no operands
+    ∷ asking "chpasswd -P R -e" Chpasswd (flagged "e" ∷ []) []
+    ∷ asking "chgpasswd -P R --encrypted" Chgpasswd (flagged "e" ∷ []) []
+    -- the group of groupmems is no operand
+    ∷ asking "groupmems -P R --group sudo -abob"
+    Groupmems (valued "g" "sudo" ∷ valued "a" "bob" ∷ []) []
+    -- batch may have one operand, and may have none
+    ∷ asking "batch -P R" Batch [] []
+    -- which is its file
+    ∷ asking "batch users -P R" Batch [] (one "users")
+    -- a bundle before the prefix, and no operand
+    ∷ asking "pwck -qr -P R" Pwck (flagged "q" ∷ flagged "r" ∷ []) []
+    -- a long name that is a flag
+    ∷ asking "grpck -P R --sort" Grpck (flagged "s" ∷ []) []
+    -- a bundle whose last letter is the prefix, with the next word
+    ∷ asking "getsubids -gP R root" Getsubids (flagged "g" ∷ []) (one "root")
+    -- a flag in front of a value, and one behind it
+    ∷ asking "groupadd -P R -f -g 27 -o dev"
+    Groupadd (flagged "f" ∷ valued "g" "27" ∷ flagged "o" ∷ []) (one "dev")
+    -- two values
+    ∷ asking "groupmod -P R -g 2000 -n staff bob"
+    Groupmod (valued "g" "2000" ∷ valued "n" "staff" ∷ []) (one "bob")
+    -- the value of an option may be `--`
+    ∷ asking "usermod -P R -c -- ann" Usermod (valued "c" "--" ∷ []) (one "ann")
+    -- a long name with `=` twice: the value holds the second
+    ∷ asking "useradd -P R --key=UID_MIN=5 ann" Useradd (valued "K" "UID_MIN=5" ∷ []) (one "ann")
+    -- `-A` with `-M` is no clash
+    ∷ asking "gpasswd -P R -A bob -M bob sudo"
+    Gpasswd (valued "A" "bob" ∷ valued "M" "bob" ∷ []) (one "sudo")
+    ∷ [])
+requests = refl
 
 -- the first fault of each of these texts
 abbrev pub FaultsAre : List (String × WordFault) → Type 0

@@ -1,6 +1,6 @@
 -- Rows of login.defs(5), beside those of account_model: what stands where a key isn't set, and the
 -- words of `-K`.
-use Rattle.std.specs.Prelude.{◌≡◌, [], ◌∷◌, codes, refl, Some, None, true, false}
+use Rattle.std.specs.Prelude.{◌≡◌, [], ◌∷◌, codes, refl, Some, None, false}
 use Rattle.account_model.specs.declared.settings.Key.TheVariants.{SysUidMax}
 use Rattle.account_model.specs.declared.settings.Kind.TheVariants.{System}
 use Rattle.account_model.specs.declared.settings.IdSort.TheVariants.{Uid, Gid}

@@ -1,50 +1,36 @@
 -- Rows of words and what they ask for, beside those of account_model (getopt_long(3)).
-use Prim.Native.String.{String}
-use Rattle.std.specs.Prelude.{◌≡◌, ◌==◌, List, [], ◌∷◌, replicate, Some, None, Result, Ok, codes, refl, true, false}
-use Rattle.std.specs.List.{slice_split}
-use Rattle.std.specs.Str.{byte}
-use Rattle.account_model.specs.declared.tool.Tool.{Tool}
+use Rattle.std.specs.Prelude.{◌≡◌, [], ◌∷◌, replicate, Some, None, Ok, codes, refl, true, false}
 use Rattle.account_model.specs.declared.tool.Tool.TheVariants.{Useradd, Usermod, Groupadd, Chage, Chpasswd, Grpck}
-use Rattle.account_model.specs.declared.word_fault.WordFault.{WordFault}
 use Rattle.account_model.specs.declared.word_fault.WordFault.TheVariants.{WordLimit, UnknownTool, UnknownOption, MissingValue, TooMany, TooFew, Clash}
-use Rattle.account_model.specs.Options.{Word}
-use Rattle.account_model.specs.declared.given.Given.{Given}
 use Rattle.account_model.specs.declared.settings.Kind.TheVariants.{System}
 use Rattle.account_model.specs.NewAccount.{kind_of}
 use Rattle.account_model.specs.Request.{Request, has_option, operand, value_of, values_of}
 use Rattle.account_model.specs.Values.{given_id, text_value}
 use Rattle.account_model.specs.Words.{request_of, fault}
-use Rattle.account_model.proofs.WordRows.{FaultsAre, flagged, one, request, valued, words_of}
+use Rattle.account_model.proofs.WordRows.{AskedAre, FaultsAre, asking, flagged, one, valued, words_of}
 
 -- ---- requests
 
-bundle_and_value : request_of (words_of "groupadd --prefix R -fo -g5 -- staff")
-    ≡ request Groupadd (flagged "f" ∷ flagged "o" ∷ valued "g" "5" ∷ []) (one "staff")
-bundle_and_value = refl
-
-empty_value : request_of (words_of "usermod -P R -l bea -e  ann")
-    ≡ request Usermod (valued "l" "bea" ∷ valued "e" "" ∷ []) (one "ann")
-empty_value = refl
-
-each_range : request_of (words_of "usermod -P R -v 5-9 -v 7-8 ann")
-    ≡ request Usermod (valued "v" "5-9" ∷ valued "v" "7-8" ∷ []) (one "ann")
-each_range = refl
-
-option_as_value : request_of (words_of "useradd -P R -s -r ann")
-    ≡ request Useradd (valued "s" "-r" ∷ []) (one "ann")
-option_as_value = refl
-
-negative_value : request_of (words_of "chage -P R -M -1 bob")
-    ≡ request Chage (valued "M" "-1" ∷ []) (one "bob")
-negative_value = refl
-
-prefix_in_a_bundle : request_of (words_of "chpasswd -eP R")
-    ≡ request Chpasswd (flagged "e" ∷ []) []
-prefix_in_a_bundle = refl
-
-long_prefix : request_of (words_of "grpck --prefix=R -s")
-    ≡ request Grpck (flagged "s" ∷ []) []
-long_prefix = refl
+requests : AskedAre (
+    -- bundle and value
+    asking "groupadd --prefix R -fo -g5 -- staff"
+    Groupadd (flagged "f" ∷ flagged "o" ∷ valued "g" "5" ∷ []) (one "staff")
+    -- empty value
+    ∷ asking "usermod -P R -l bea -e  ann"
+    Usermod (valued "l" "bea" ∷ valued "e" "" ∷ []) (one "ann")
+    -- each range
+    ∷ asking "usermod -P R -v 5-9 -v 7-8 ann"
+    Usermod (valued "v" "5-9" ∷ valued "v" "7-8" ∷ []) (one "ann")
+    -- option as value
+    ∷ asking "useradd -P R -s -r ann" Useradd (valued "s" "-r" ∷ []) (one "ann")
+    -- negative value
+    ∷ asking "chage -P R -M -1 bob" Chage (valued "M" "-1" ∷ []) (one "bob")
+    -- prefix in a bundle
+    ∷ asking "chpasswd -eP R" Chpasswd (flagged "e" ∷ []) []
+    -- long prefix
+    ∷ asking "grpck --prefix=R -s" Grpck (flagged "s" ∷ []) []
+    ∷ [])
+requests = refl
 
 -- ---- the first fault
 
