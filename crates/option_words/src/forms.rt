@@ -1,5 +1,5 @@
 // The options that the words of a tool may give, by letter and by long name.
-ghost use Rattle.std.specs.Prelude.{◌≡◌, ◌==◌, find, option_map};
+ghost use Rattle.std.specs.Prelude.{◌≡◌, find, option_map};
 ghost use Rattle.account_model.specs.SeenRows.{form_of};
 ghost use Rattle.account_model.specs.Spelling.{form_of_letter as by_letter, form_of_name as by_name, has_long_name as is_named};
 ghost use Rattle.account_model.specs.ToolOptions.{is_prefix, options_for};
