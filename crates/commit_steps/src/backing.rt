@@ -1,23 +1,19 @@
-// The state of a keeper that backs up the tables that differ, before its commit. `back_up_next` goes
-// one step, `append_next` puts the next piece of a table behind those that are staged, and `stage_intent`
-// leads to `IntentStaged` once all are backed up.
+// The state of a keeper that backs up the tables that differ, before its commit. `go_on` makes its next
+// call, and leads to `IntentStaged` once all are backed up.
 ghost use Rattle.std.specs.Prelude.{◌≡◌, ◌<◌, false, true, IfOk, IsSome, IsSomeAnd};
-ghost use Rattle.acct_outside.specs.declared.Name.TheVariants.{IntentStage};
 ghost use Rattle.acct_outside.specs.Calls.{renames, writes};
 ghost use Rattle.acct_outside.specs.Contract.{CallsFolder, MayAct};
 ghost use Rattle.acct_outside.specs.Pieces.{piece_at};
-ghost use Rattle.suite_rules.specs.Steps.{StandsIn, own_command, TakesStep};
-ghost use Rattle.suite_rules.specs.Outcomes.{LeadsTo, before_commit};
+ghost use Rattle.suite_rules.specs.Steps.{StandsIn};
 ghost use Rattle.lock_steps.specs.NextCall.{IsNextCall};
 ghost use Rattle.commit_steps.specs.NextCall.{backing_call};
-ghost use Rattle.commit_steps.specs.States.{append_on, backup_pieces, has_staged, intent_piece, next_table, old_bytes, old_files, begun_of, step_on, steps_left, walk_of};
-ghost use Rattle.commit_steps.specs.Stands.{BacksUp, HasStagedIntent};
-ghost use Rattle.commit_steps.specs.Outcomes.{backs_up_more, backup_call};
-ghost use Rattle.commit_steps.specs.Walks.{AppendsOn, WalksOn, token_of};
+ghost use Rattle.commit_steps.specs.States.{append_on, backup_pieces, has_staged, next_table, old_bytes, old_files, step_on, steps_left, walk_of};
+ghost use Rattle.commit_steps.specs.Stands.{BacksUp};
+ghost use Rattle.commit_steps.specs.Walks.{BacksOn, token_of};
 
 use crate::committing::IntentStaged;
 use crate::prepared::Prepared;
-use crate::walking::Walking;
+use crate::walking::{Walked, Walking};
 use acct_outside::{
     Call, CommitStage, Folder, FolderFault, Name, StageFault, piece_at, piece_count,
 };
@@ -40,6 +36,9 @@ impl Model for Backing {
     ghost view = { λ backing. backing.walking };
 }
 
+/// Where the next call of a backup leads to.
+pub type Backed = Walked<Backing, IntentStaged>;
+
 impl Backing {
     /// The change before its first backup.
     pub(crate) fn start(prepared: Prepared) -> Self
@@ -50,16 +49,16 @@ impl Backing {
         }
     }
 
-    /// How many steps are left: for each table that differs the write and then the rename. The appends
-    /// aren't counted.
-    pub fn left(&self) -> usize
+    // How many steps are left: for each table that differs the write and then the rename. The appends
+    // aren't counted.
+    fn left(&self) -> usize
         ensures { result ≡ steps_left self.now }
     {
         self.walking.left()
     }
 
-    /// How many pieces of the next table's old bytes are left to append.
-    pub fn pieces(&self) -> usize
+    // How many pieces of the next table's old bytes are left to append.
+    fn pieces(&self) -> usize
         ensures { result ≡ backup_pieces self.now }
     {
         if self.left() == 0 {
@@ -78,9 +77,7 @@ impl Backing {
         self.walking.prepared().old(table).as_slice()
     }
 
-    /// The call that it makes next: that of `append_next`, where a piece is left to append, else that of
-    /// `back_up_next`, or of `stage_intent` once no step is left. The error says that memory ran out for
-    /// the piece.
+    /// The call that `go_on` makes. The error says that memory ran out for the piece.
     pub fn next_call(&self, alloc: Global) -> Result<Call, AllocError>
         ensures { IfOk result (IsNextCall (BacksUp self.now) (backing_call self.now)) }
     {
@@ -126,76 +123,59 @@ impl Backing {
         Ok(Call::Write(Name::BackupStage, piece))
     }
 
-    /// Appends the next piece of the next table's old bytes to those that are staged.
+    /// Makes the next call: it stages the first piece of the next table's old bytes, appends a further one
+    /// or moves them all to its backup; with all tables backed up it stages the first piece of the intent.
     ///
     /// At a fault the keeper is spent, and nothing is committed.
-    pub fn append_next<F: Folder>(self, folder: &mut F) -> Result<Self, StageFault>
-        requires pieces { 0 < backup_pieces self }
-        requires stands { StandsIn (F.moment folder.old) (token_of self) (BacksUp self) }
-        ensures { AppendsOn backs_up_more BacksUp before_commit self (F.moment folder.old)
-            (F.moment folder.new) result }
+    pub fn go_on<F: Folder>(self, folder: &mut F) -> Result<Backed, StageFault>
+        requires { StandsIn (F.moment folder.old) (token_of self) (BacksUp self) }
+        ensures { BacksOn self (F.moment folder.old) (F.moment folder.new) result }
     {
+        if self.left() == 0 {
+            return self.stage_intent(folder);
+        }
+        if self.pieces() == 0 {
+            return self.back_up_next(folder);
+        }
         let token = self.walking.prepared().token();
         let old = self.old();
         let count = piece_count(old);
         let piece = piece_at(old, self.walking.staged());
         let appended = folder.append(token, Name::BackupStage, piece);
-        leads(self.append_on(count), appended, CommitStage::Before)
+        let walking = self.walking.append_on(count);
+        let on = Walked::More(Backing { walking });
+        leads(on, appended, CommitStage::Before)
     }
 
-    // One piece more is staged, of so many.
-    fn append_on(self, count: usize) -> Self
-        requires begun { has_staged self ≡ true }
-        requires within { self.staged < count }
-        ensures { result ≡ append_on self }
-    {
-        Backing {
-            walking: self.walking.append_on(count),
-        }
-    }
-
-    /// Writes the first piece of the next table's old bytes, or moves them all to its backup.
-    ///
-    /// At a fault the keeper is spent, and nothing is committed.
-    pub fn back_up_next<F: Folder>(self, folder: &mut F) -> Result<Self, StageFault>
+    // Writes the first piece of the next table's old bytes, or moves them all to its backup.
+    fn back_up_next<F: Folder>(self, folder: &mut F) -> Result<Backed, StageFault>
         requires left { 0 < steps_left self }
         requires whole { backup_pieces self ≡ 0 }
         requires stands { StandsIn (F.moment folder.old) (token_of self) (BacksUp self) }
-        ensures { WalksOn backup_call BacksUp before_commit self (F.moment folder.old)
-            (F.moment folder.new) result }
+        ensures { BacksOn self (F.moment folder.old) (F.moment folder.new) result }
     {
         let table = self.walking.next().table;
         let is_staged = self.walking.has_staged();
         let called = back_up(self.walking.prepared(), table, is_staged, folder);
-        leads(self.step_on(), called, CommitStage::Before)
+        let walking = self.walking.step_on();
+        let on = Walked::More(Backing { walking });
+        leads(on, called, CommitStage::Before)
     }
 
-    // One step further.
-    fn step_on(self) -> Self
-        requires { 0 < steps_left self }
-        ensures { result ≡ step_on self }
-    {
-        Backing {
-            walking: self.walking.step_on(),
-        }
-    }
-
-    /// Writes the first piece of the intent to its staging name, once all tables that differ are backed
-    /// up.
-    ///
-    /// At a fault the keeper is spent, and nothing is committed.
-    pub fn stage_intent<F: Folder>(self, folder: &mut F) -> Result<IntentStaged, StageFault>
+    // Writes the first piece of the intent to its staging name, once all tables that differ are backed up.
+    fn stage_intent<F: Folder>(self, folder: &mut F) -> Result<Backed, StageFault>
         requires left { steps_left self ≡ 0 }
         requires stands { StandsIn (F.moment folder.old) (token_of self) (BacksUp self) }
-        ensures { TakesStep (F.moment folder.old) (F.moment folder.new) (token_of self)
-            (writes IntentStage (intent_piece 0 self.change))
-            (λ answer. LeadsTo (begun_of self.change) before_commit answer result) HasStagedIntent
-            own_command (before_commit FolderFault.Failed) result }
+        ensures { BacksOn self (F.moment folder.old) (F.moment folder.new) result }
     {
         let prepared = self.walking.into_prepared();
         let piece = prepared.intent_piece(0);
         let written = folder.write(prepared.token(), Name::IntentStage, piece);
-        leads(IntentStaged::of(prepared), written, CommitStage::Before)
+        leads(
+            Walked::Done(IntentStaged::of(prepared)),
+            written,
+            CommitStage::Before,
+        )
     }
 }
 

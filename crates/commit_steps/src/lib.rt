@@ -6,12 +6,11 @@
 //! 1. [`Loader`]: it has read the tables before the next. `load_next` reads one, in the order passwd,
 //!    shadow, group, gshadow, subuid, subgid, and then login.defs.
 //! 2. [`Loaded`]: all seven are read. `prepare` makes the intent of the new files.
-//! 3. [`Backing`]: `back_up_next` stages and moves the old bytes of each table that differs, with
-//!    `append_next` for each further piece, and `stage_intent` stages the intent's first piece.
+//! 3. [`Backing`]: `go_on` stages and moves the old bytes of each table that differs, and then stages the
+//!    intent's first piece.
 //! 4. [`IntentStaged`]: `append_intent` stages a further piece, and `commit` moves the intent to its name. From then on the change stands.
-//! 5. [`Installing`]: `install_next` stages and moves the new bytes of each table that differs, with
-//!    `append_next` for each further piece, and `clear` removes the intent.
-//! 6. [`Cleared`]: the keeper is clean again.
+//! 5. [`Installing`]: `go_on` stages and moves the new bytes of each table that differs, and then removes
+//!    the intent: the keeper is clean again.
 //!
 //! Before the commit a death leaves the old tables; after it whoever becomes keeper next carries the
 //! intent out. No state knows what stands in the folder, so any events of other sessions may come
@@ -30,9 +29,10 @@ use acct_outside::{Name, StageFault};
 use acct_text::Tab;
 pub use backing::Backing;
 pub use committing::IntentStaged;
-pub use installing::{Cleared, Installing};
+pub use installing::Installing;
 use lock_steps::{Clean, Keeper};
 pub use reading::{Loaded, Loader};
+pub use walking::Walked;
 
 /// What a read of the inputs leads to.
 #[derive(Drop)]

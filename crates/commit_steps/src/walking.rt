@@ -8,6 +8,15 @@ use acct_text::Bytes;
 use intent_file::NewTable;
 use std::marker::Model;
 
+/// Where a step on the way leads to.
+#[derive(Drop)]
+pub enum Walked<W, E> {
+    /// More is to be staged or moved.
+    More(W),
+    /// All tables are done, and what comes behind them.
+    Done(E),
+}
+
 /// A change, and how far its tables are done: those before the place, and so many pieces of the one there.
 #[derive(Drop)]
 pub(crate) struct Walking {

@@ -20,7 +20,6 @@ use Rattle.acct_text.specs.Bytes.{Bytes}
 use Rattle.acct_text.specs.ChangedTables.{changed_among, with_new_table}
 use Rattle.intent_file.specs.Intent.{NewTable}
 use Rattle.intent_file.proofs.SizeLemmas.{pieces-most}
-use Rattle.lock_steps.specs.States.{Kept}
 use Rattle.suite_rules.specs.Outcomes.{pieces_left}
 use Rattle.commit_steps.specs.declared.Loading.{Loading as Loaded}
 use Rattle.commit_steps.specs.declared.Loading.TheVariants.{More, Done}
@@ -212,18 +211,6 @@ ended-calls tool reader answer (NoTable table kept) state ends shown =
 
 -- ---- The commit
 
--- a step of a walk leaves fewer, and keeps the keeper
-walked-fewer : (walker next : Walker) → next ≡ step_on walker → 0 < steps_left walker →
-    steps_left next < steps_left walker
-walked-fewer walker next is some = subst (λ (one : Walker). steps_left one < steps_left walker)
-    (sym is) (fewer-steps walker some)
-
--- a walk over the tables keeps the lock that it began with
-walked-keeper : (walker next : Walker) → next ≡ step_on walker →
-    next.change.inputs.keeper ≡ walker.change.inputs.keeper
-walked-keeper walker next is = ap (λ (one : Walker). one.change.inputs.keeper) is
-    ∙ ap (λ (one : Change). one.inputs.keeper) (step-change walker)
-
 -- the appends of a backup, by the change that is backed up
 abbrev backups_left : Change → Walker → ℕ
 backups_left change walker = texts_appends walker.staged
@@ -231,47 +218,39 @@ backups_left change walker = texts_appends walker.staged
     + (intent_left (begun_of change) + install_appends change)
 
 -- a step of the backups
-pub backed-calls : (walker next : Walker) (answer : FinalAnswer) (table : NewTable) →
-    next_table walker ≡ Some table → next ≡ step_on walker → 0 < steps_left walker →
-    backup_pieces walker ≡ 0 → LeavesFewer (BackingUp walker answer) (BackingUp next answer)
-backed-calls walker next answer table is_next is some whole =
-    let fewer = walked-fewer walker next is some in
-    let same = ap commit_calls (walked-keeper walker next is) in
-    let change = ap (λ (one : Walker). one.change) is ∙ step-change walker in
-    let left : appends_left (BackingUp next answer) ≡ backups_left walker.change (step_on walker) =
-    ap (λ (one : Change). backups_left one next) change
-    ∙ ap (backups_left walker.change) is in
+pub backed-calls : (walker : Walker) (answer : FinalAnswer) (table : NewTable) →
+    next_table walker ≡ Some table → 0 < steps_left walker → backup_pieces walker ≡ 0 →
+    LeavesFewer (BackingUp walker answer) (BackingUp (step_on walker) answer)
+backed-calls walker answer table is_next some whole =
+    let fewer = fewer-steps walker some in
+    let same = ap (λ (one : Change). commit_calls one.inputs.keeper) (step-change walker) in
+    let left : appends_left (BackingUp (step_on walker) answer)
+    ≡ backups_left walker.change (step_on walker) =
+    ap (λ (one : Change). backups_left one (step_on walker)) (step-change walker) in
     let less = walked-appends (λ new. old_bytes walker.change new.table) walker table is_next in
     let steps = ap (λ (one : Change). texts_appends (step_on walker).staged
     (old_texts walker.change (drop (step_on walker).place (changed one)))) (step-change walker) in
-    other-fewer (BackingUp walker answer) (BackingUp next answer) whole
+    other-fewer (BackingUp walker answer) (BackingUp (step_on walker) answer) whole
     (omega (arith, fewer, same)) (omega (arith, left, less, steps))
-    (ap (λ (one : Walker). text_in (BackingUp one answer)) is
-    ∙ ap (λ (one : Change). begun_text (λ new. BackupStage) (λ new. old_bytes one new.table)
+    (ap (λ (one : Change). begun_text (λ new. BackupStage) (λ new. old_bytes one new.table)
     (step_on walker).staged (next_table (step_on walker))) (step-change walker)
     ∙ walked-step (λ new. BackupStage) (λ new. old_bytes walker.change new.table) walker table
     is_next (sym (old-pieces walker table is_next) ∙ whole)
     ∙ sym (ap (backed_then walker) is_next))
 
 -- an append for a backup
-pub backed-more : (walker next : Walker) (answer : FinalAnswer) (table : NewTable) →
-    next_table walker ≡ Some table → next ≡ append_on walker → 0 < backup_pieces walker →
-    LeavesFewer (BackingUp walker answer) (BackingUp next answer)
-backed-more walker next answer table is_next is some =
-    let calls = ap (λ (one : Walker). calls_left (BackingUp one answer)) is in
-    let appends = ap (λ (one : Walker). appends_left (BackingUp one answer)) is in
-    let piece = subst (λ (count : ℕ). 0 < count)
-    (ap (λ (found : Option NewTable). unwrap_or (option_map
-    (λ one. pieces_left walker.staged (old_bytes walker.change one.table)) found) 0) is_next)
-    some in
+pub backed-more : (walker : Walker) (answer : FinalAnswer) (table : NewTable) →
+    next_table walker ≡ Some table → 0 < backup_pieces walker →
+    LeavesFewer (BackingUp walker answer) (BackingUp (append_on walker) answer)
+backed-more walker answer table is_next some =
+    let piece = subst (λ (count : ℕ). 0 < count) (old-pieces walker table is_next) some in
     let begun = begun-left walker.staged (old_bytes walker.change table.table) piece in
     let less = walk-appends (λ new. old_bytes walker.change new.table) walker table is_next begun
     piece in
     let steps = added-steps walker begun in
-    append-fewer (BackingUp walker answer) (BackingUp next answer) some
-    (omega (arith, calls, steps)) (omega (arith, appends, less))
-    (ap (λ (one : Walker). text_in (BackingUp one answer)) is
-    ∙ walked-more (λ new. BackupStage) (λ new. old_bytes walker.change new.table) walker table
+    append-fewer (BackingUp walker answer) (BackingUp (append_on walker) answer) some
+    (omega (arith, steps)) (omega (arith, less))
+    (walked-more (λ new. BackupStage) (λ new. old_bytes walker.change new.table) walker table
     is_next piece
     ∙ sym (ap (backed_then walker) is_next))
 
@@ -292,36 +271,31 @@ backing-appends walker answer some = cases (next_table walker) refl some
         omega (arith, less)
 
 -- a step of the installation
-pub installed-calls : (walker next : Walker) (answer : FinalAnswer) (table : NewTable) →
-    next_table walker ≡ Some table → next ≡ step_on walker → 0 < steps_left walker →
-    install_pieces walker ≡ 0 → LeavesFewer (Installing walker answer) (Installing next answer)
-installed-calls walker next answer table is_next is some whole =
-    let fewer = walked-fewer walker next is some in
-    let same = ap leaving_calls (walked-keeper walker next is) in
-    let left = ap (λ (one : Walker). appends_left (Installing one answer)) is in
+pub installed-calls : (walker : Walker) (answer : FinalAnswer) (table : NewTable) →
+    next_table walker ≡ Some table → 0 < steps_left walker → install_pieces walker ≡ 0 →
+    LeavesFewer (Installing walker answer) (Installing (step_on walker) answer)
+installed-calls walker answer table is_next some whole =
+    let fewer = fewer-steps walker some in
+    let same = ap (λ (one : Change). leaving_calls one.inputs.keeper) (step-change walker) in
     let less = walked-appends (λ new. new.bytes) walker table is_next in
-    other-fewer (Installing walker answer) (Installing next answer) whole
-    (omega (arith, fewer, same)) (omega (arith, left, less))
-    (ap (λ (one : Walker). text_in (Installing one answer)) is
-    ∙ walked-step (λ new. Staged new.table) (λ new. new.bytes) walker table is_next
+    other-fewer (Installing walker answer) (Installing (step_on walker) answer) whole
+    (omega (arith, fewer, same)) (omega (arith, less))
+    (walked-step (λ new. Staged new.table) (λ new. new.bytes) walker table is_next
     (sym (pieces-are walker table is_next) ∙ whole)
     ∙ sym (ap (installed_then walker.staged) is_next))
 
 -- an append for it
-pub installed-more : (walker next : Walker) (answer : FinalAnswer) (table : NewTable) →
-    next_table walker ≡ Some table → next ≡ append_on walker → 0 < install_pieces walker →
-    LeavesFewer (Installing walker answer) (Installing next answer)
-installed-more walker next answer table is_next is some =
-    let calls = ap (λ (one : Walker). calls_left (Installing one answer)) is in
-    let appends = ap (λ (one : Walker). appends_left (Installing one answer)) is in
+pub installed-more : (walker : Walker) (answer : FinalAnswer) (table : NewTable) →
+    next_table walker ≡ Some table → 0 < install_pieces walker →
+    LeavesFewer (Installing walker answer) (Installing (append_on walker) answer)
+installed-more walker answer table is_next some =
     let piece = subst (λ (count : ℕ). 0 < count) (pieces-are walker table is_next) some in
     let begun = begun-left walker.staged table.bytes piece in
     let less = walk-appends (λ new. new.bytes) walker table is_next begun piece in
     let steps = added-steps walker begun in
-    append-fewer (Installing walker answer) (Installing next answer) some
-    (omega (arith, calls, steps)) (omega (arith, appends, less))
-    (ap (λ (one : Walker). text_in (Installing one answer)) is
-    ∙ walked-more (λ new. Staged new.table) (λ new. new.bytes) walker table is_next piece
+    append-fewer (Installing walker answer) (Installing (append_on walker) answer) some
+    (omega (arith, steps)) (omega (arith, less))
+    (walked-more (λ new. Staged new.table) (λ new. new.bytes) walker table is_next piece
     ∙ sym (ap (installed_then walker.staged) is_next))
 
 -- an installation with a piece left has an append left
@@ -339,15 +313,12 @@ installing-appends walker answer some = cases (next_table walker) refl some
         omega (arith, less)
 
 -- the first piece of the intent is staged
-pub intended-calls : (walker : Walker) (stager : Stager) (answer : FinalAnswer) →
-    stager ≡ begun_of walker.change → steps_left walker ≡ 0 → backup_pieces walker ≡ 0 →
-    LeavesFewer (BackingUp walker answer) (Committing stager answer)
-intended-calls walker stager answer is none whole =
-    let same = ap (λ (one : Stager). commit_calls one.change.inputs.keeper) is in
-    let appends = ap (λ (one : Stager). appends_left (Committing one answer)) is in
-    other-fewer (BackingUp walker answer) (Committing stager answer) whole
-    (omega (arith, same)) (omega (arith, appends))
-    (ap stager_text is ∙ sym (ap (backed_then walker) (no-table walker none)))
+pub intended-calls : (walker : Walker) (answer : FinalAnswer) → steps_left walker ≡ 0 →
+    backup_pieces walker ≡ 0 →
+    LeavesFewer (BackingUp walker answer) (Committing (begun_of walker.change) answer)
+intended-calls walker answer none whole =
+    other-fewer (BackingUp walker answer) (Committing (begun_of walker.change) answer) whole
+    (omega arith) (omega arith) (sym (ap (backed_then walker) (no-table walker none)))
 
 -- a further one
 pub staged-more : (stager next : Stager) (answer : FinalAnswer) → next ≡ append_intent stager →
@@ -378,10 +349,9 @@ committed-calls stager walker answer is whole =
     (ap (λ (one : Walker). text_in (Installing one answer)) is ∙ intent-moved stager whole)
 
 -- the intent is removed
-pub cleared-calls : (walker : Walker) (keeper : Kept) (answer : FinalAnswer) →
-    keeper ≡ walker.change.inputs.keeper → install_pieces walker ≡ 0 → steps_left walker ≡ 0 →
-    LeavesFewer (Installing walker answer) (Unlocking keeper answer)
-cleared-calls walker keeper answer is whole none =
-    let same = ap leaving_calls is in
-    other-fewer (Installing walker answer) (Unlocking keeper answer) whole (omega (arith, same))
-    (omega arith) (sym (ap (installed_then walker.staged) (no-table walker none)))
+pub cleared-calls : (walker : Walker) (answer : FinalAnswer) → install_pieces walker ≡ 0 →
+    steps_left walker ≡ 0 →
+    LeavesFewer (Installing walker answer) (Unlocking walker.change.inputs.keeper answer)
+cleared-calls walker answer whole none =
+    other-fewer (Installing walker answer) (Unlocking walker.change.inputs.keeper answer) whole
+    (omega arith) (omega arith) (sym (ap (installed_then walker.staged) (no-table walker none)))

@@ -1,6 +1,6 @@
--- Claims: each call on the way to a commit leads to the next state of the change (`backs-to`,
--- `stages-intent`, `adds-intent`), the commit to the installation with its answer (`commits-stands`), and
--- each call after it to the next with the answer still due (`installs-to`, `clears`).
+-- Claims: each call on the way to a commit leads to the next state of the change (`changes-to`), the commit
+-- to the installation with its answer (`commits-stands`), and each call after it to the next with the
+-- answer still due (`installs-to`, `clears`).
 -- Way: the typed step gives the standing. Just before the commit the session is a clean keeper that
 -- has seen the inputs, and this stays an earlier moment of each longer history.
 use Rattle.std.proofs.Common.{◌≡◌, [], refl, sym, ap, subst, ◌∙◌, Option, Some, None, IfSome, Result, Ok, Err}
@@ -17,12 +17,12 @@ use Rattle.suite_rules.specs.Deeds.{SuiteDeeds}
 use Rattle.suite_rules.specs.Knowledge.{nothing_seen}
 use Rattle.suite_rules.specs.Standing.{Standing, standing_step}
 use Rattle.suite_rules.specs.Steps.{StandsIn, Leaves, MakesCall, own_command, asked as asked_of}
-use Rattle.suite_rules.specs.Outcomes.{LeadsTo, at_commit, before_commit}
+use Rattle.suite_rules.specs.Outcomes.{LeadsTo, at_commit}
 use Rattle.suite_rules.proofs.StepLemmas.{stands-left, stands-weaker}
 use Rattle.lock_steps.specs.States.{Kept}
 use Rattle.lock_steps.specs.Stands.{Keeps, KnowsAnything}
-use Rattle.commit_steps.specs.States.{Change, Stager, Walker, append_intent, begun_of, walk_of}
-use Rattle.commit_steps.specs.Stands.{BacksUp, HasStagedIntent, HasCleared, Installs, IsDeed, StandsUnsure}
+use Rattle.commit_steps.specs.States.{Change, Stager, Walker, walk_of}
+use Rattle.commit_steps.specs.Stands.{HasStagedIntent, HasCleared, Installs, IsDeed, StandsUnsure}
 use Rattle.commit_steps.specs.Walks.{token_of}
 use Rattle.suite_answers.specs.declared.cause.Cause.TheVariants.{Changed}
 use Rattle.suite_answers.specs.declared.answer.Answer.{Answer as FinalAnswer}
@@ -43,7 +43,7 @@ use Rattle.suite_session.proofs.WritingLemmas.{IsTurnCall, change-deed}
 use Rattle.suite_session.proofs.LeavingLemmas.{fault-stopped, clean-known}
 use Rattle.suite_session.proofs.CauseLemmas.{IsMetAs, fault-stage, told-met, told-stage, told-plain, told-says, plain-shown, fault-plain}
 use Rattle.suite_session.proofs.TurnLemmas.{HasMetNow, goes-on, extended, told-left}
-use Rattle.suite_session.proofs.LeadsLemmas.{leads-on, leads-fault}
+use Rattle.suite_session.proofs.LeadsLemmas.{leads-fault}
 use Rattle.suite_session.proofs.DueLemmas.{earlier-stays}
 use Rattle.suite_session.proofs.GrowsLemmas.{grew-extends, tells-grow}
 
@@ -80,76 +80,21 @@ commit-ended next (Ok answer) fault shown = absurd shown
 -- ---- The turns
 
 module _ (before now : Moment) (runner : Runner) (answer : FinalAnswer) where
-  module _ (walker : Walker)
-      (stood : StandsChanging before runner walker.change (BacksUp walker) answer) where
-    -- a call for the backups, which leads on and keeps the change
-    pub backs-to : (call : Call)
-        (of_turn : IsTurnCall (Runs runner Before (BacksUp walker)) call)
-        (quiet : (result : CallResult (Answer call)) (one : Standing) →
-        own_command (standing_step call result one) ≡ own_command one) (on walked : Walker) →
-        on.change ≡ walker.change →
-        MakesCall before now (token_of walker) call
-        (λ result. LeadsTo on before_commit result (Ok walked)) →
-        StandsIn now (token_of walker) (BacksUp walked) →
-        StandsChanging now runner walked.change (BacksUp walked) answer
-    backs-to call of_turn quiet on walked keeps made stands =
-        let is = leads-on on before_commit made.answer walked made.shown in
-        let change = ap (λ (one : Walker). one.change) is ∙ keeps in
-        record {
-          same = ap (λ (one : Change). one.inputs.keeper.token) change ∙ stood.same;
-          stands = goes-on before now runner Before (BacksUp walker) stood.stands
-              (token_of walker) stood.same call of_turn _ quiet made (BacksUp walked) stands;
-          of_change = subst (λ (one : Change). IsOfChange runner one answer) (sym change)
-              stood.of_change;
-        }
-
-    -- the write of the intent's first piece
-    pub stages-intent : (call : Call)
-        (of_turn : IsTurnCall (Runs runner Before (BacksUp walker)) call)
-        (quiet : (result : CallResult (Answer call)) (one : Standing) →
-        own_command (standing_step call result one) ≡ own_command one) (staged : Stager) →
-        MakesCall before now (token_of walker) call
-        (λ result. LeadsTo (begun_of walker.change) before_commit result (Ok staged)) →
-        StandsIn now (token_of walker) (HasStagedIntent staged) →
-        StandsChanging now runner staged.change (HasStagedIntent staged) answer
-    stages-intent call of_turn quiet staged made stands =
-        let is = leads-on (begun_of walker.change) before_commit made.answer staged made.shown in
-        let change = ap (λ (one : Stager). one.change) is in
-        record {
-          same = ap (λ (one : Change). one.inputs.keeper.token) change ∙ stood.same;
-          stands = goes-on before now runner Before (BacksUp walker) stood.stands
-              (token_of walker) stood.same call of_turn _ quiet made (HasStagedIntent staged)
-              stands;
-          of_change = subst (λ (one : Change). IsOfChange runner one answer) (sym change)
-              stood.of_change;
-        }
+  -- where a step keeps the change, its session is on its way to the commit still
+  pub changes-to : (change : Change) (Held : Standing → Type 0) →
+      StandsChanging before runner change Held answer → (on : Change) (Holds : Standing → Type 0) →
+      on ≡ change → At now runner Before Holds → StandsChanging now runner on Holds answer
+  changes-to change Held stood on Holds same stands = record {
+    same = ap (λ (one : Change). one.inputs.keeper.token) same ∙ stood.same;
+    stands = stands;
+    of_change = subst (λ (one : Change). IsOfChange runner one answer) (sym same) stood.of_change;
+  }
 
   module _ (stager : Stager)
       (stood : StandsChanging before runner stager.change (HasStagedIntent stager) answer) where
     -- the change whose intent is staged
     abbrev change : Change
     change = stager.change
-
-    -- an append of a further piece of the intent
-    pub adds-intent : (call : Call)
-        (of_turn : IsTurnCall (Runs runner Before (HasStagedIntent stager)) call)
-        (quiet : (result : CallResult (Answer call)) (one : Standing) →
-        own_command (standing_step call result one) ≡ own_command one) (staged : Stager) →
-        MakesCall before now change.inputs.keeper.token call
-        (λ result. LeadsTo (append_intent stager) before_commit result (Ok staged)) →
-        StandsIn now change.inputs.keeper.token (HasStagedIntent staged) →
-        StandsChanging now runner staged.change (HasStagedIntent staged) answer
-    adds-intent call of_turn quiet staged made stands =
-        let is = leads-on (append_intent stager) before_commit made.answer staged made.shown in
-        let same = ap (λ (one : Stager). one.change) is in
-        record {
-          same = ap (λ (one : Change). one.inputs.keeper.token) same ∙ stood.same;
-          stands = goes-on before now runner Before (HasStagedIntent stager) stood.stands
-              change.inputs.keeper.token stood.same call of_turn _ quiet made
-              (HasStagedIntent staged) stands;
-          of_change = subst (λ (one : Change). IsOfChange runner one answer) (sym same)
-              stood.of_change;
-        }
 
     -- the answer is that of a change
     is-changed : answer.outcome.cause ≡ Changed
@@ -345,16 +290,16 @@ module _ (before now : Moment) (runner : Runner) (answer : FinalAnswer) where
             (token_of walker) stood.same call of_turn Shows quiet made);
       }
 
-      -- a call of the installation, which leads on and keeps the change
-      pub installs-to : (on walked : Walker) → on.change ≡ walker.change → walked ≡ on →
+      -- a call of the installation, which leads on and keeps the keeper
+      pub installs-to : (walked : Walker) →
+          walked.change.inputs.keeper ≡ walker.change.inputs.keeper →
           StandsIn now (token_of walker) (Installs walked) →
           StandsInstalling now runner walked answer
-      installs-to on walked keeps is next =
+      installs-to walked keeps next =
           let stands = goes-on before now runner Committed (Installs walker) stood.stands
           (token_of walker) stood.same call of_turn Shows quiet made (Installs walked) next in
           record {
-            same = ap token_of is
-                ∙ (ap (λ (one : Change). one.inputs.keeper.token) keeps ∙ stood.same);
+            same = ap (λ (one : Kept). one.token) keeps ∙ stood.same;
             stands = stands;
             changed = stood.changed;
             gives = gives-still (Installs walked) stands;

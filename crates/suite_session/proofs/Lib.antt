@@ -46,3 +46,4 @@ mod TextsLemmas
 pub mod TextCalls
 mod TurnLemmas
 mod UnlockingTurns
+mod WalkTurns

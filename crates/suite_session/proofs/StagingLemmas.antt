@@ -3,7 +3,7 @@
 -- (`staged-last`); its begin stages nothing (`staged-first`).
 -- Way: a call stages at a name where nothing is staged, appends to what is staged, or moves just that
 -- (`stage-of`); any other comes where nothing is staged. A keeper alone stages.
-use Rattle.std.proofs.Common.{◌≡◌, ◌≢◌, refl, sym, ap, subst, ◌∙◌, ◌<◌, ◌+◌, [], ◌∷◌, ℕ, Bool, true, false, nat_lt, if◌then◌else◌, inl, inr, List, slice_get, Option, Some, None, true≢false, arith}
+use Rattle.std.proofs.Common.{◌≡◌, ◌≢◌, refl, sym, ap, subst, ◌∙◌, ◌<◌, [], ◌∷◌, ℕ, Bool, true, false, nat_lt, if◌then◌else◌, inl, inr, List, slice_get, Option, Some, None, true≢false, arith}
 use Rattle.std.specs.Prelude.{option_map}
 use Rattle.std.proofs.lemmas.Slice.Eq.{bytes_eq-Decides}
 use Rattle.acct_text.specs.Bytes.{Bytes}
@@ -27,14 +27,11 @@ use Rattle.acct_outside.proofs.NameLemmas.{name-is, name-same}
 use Rattle.suite_rules.proofs.Own.{own-standing}
 use Rattle.lock_steps.specs.NextCall.{next_or}
 use Rattle.commit_steps.specs.NextCall.{backs_up_table, committing_call, installs_table}
-use Rattle.commit_steps.specs.Outcomes.{backs_up_more, backup_call, install_call, installs_more}
-use Rattle.commit_steps.proofs.InstallLemmas.{step-unstaged}
-use Rattle.commit_steps.specs.States.{Stager, Walker, append_on, has_staged, intent_left, intent_piece, next_table, old_bytes, step_on}
+use Rattle.commit_steps.specs.Outcomes.{backs_up_more, installs_more}
+use Rattle.commit_steps.specs.States.{Stager, Walker, has_staged, intent_left, intent_piece, next_table, old_bytes}
 use Rattle.recovery.specs.NextCall.{moves_table}
 use Rattle.recovery.specs.States.{Mover}
-use Rattle.recovery.proofs.CarryLemmas.{some-staged}
 use Rattle.account_model.specs.declared.tool.Tool.{Tool}
-use Rattle.suite_answers.specs.declared.answer.Answer.{Answer}
 use Rattle.suite_answers.specs.declared.cause.Cause.{Cause}
 use Rattle.suite_answers.specs.declared.cause.Cause.TheVariants.{Memory}
 use Rattle.suite_session.specs.declared.state.State.{State}
@@ -297,55 +294,14 @@ table-staged moving left next same is =
     ap (λ (tables : List NewTable). option_map (λ new. Staged new.table) (slice_get tables 0)) same
     ∙ ap (option_map (λ (new : NewTable). Staged new.table)) is
 
-module _ (walker : Walker) (next : NewTable) (is_next : next_table walker ≡ Some next)
-    (answer : Answer) where
-  -- a walker with a piece staged for this table, or with one piece more
-  walked-staged : (on : Walker) → has_staged on ≡ true → next_table on ≡ next_table walker →
-      (name_of : NewTable → Name) →
-      (if has_staged on then option_map name_of (next_table on) else None) ≡ Some (name_of next)
-  walked-staged on begun same name_of =
-      ap (λ (one : Bool). if one then option_map name_of (next_table on) else None) begun
-      ∙ ap (option_map name_of) (same ∙ is_next)
-
-  -- an append of a backup
-  pub backup-added : (on : Walker) → on ≡ append_on walker →
-      StagesTo (backs_up_more walker next) (BackingUp on answer)
-  backup-added on is = walked-staged on
-      (ap has_staged is ∙ some-staged (walker.staged + 1) (omega arith)) (ap next_table is)
-      (λ new. BackupStage)
-
-  -- a step of one
-  pub backup-stepped : (on : Walker) → on ≡ step_on walker →
-      StagesTo (backup_call walker next) (BackingUp on answer)
-  backup-stepped on is = cases (has_staged walker) refl
-    where
-      cases : (begun : Bool) → has_staged walker ≡ begun → StagesTo (if begun
-          then renames BackupStage (Backup next.table)
-          else writes BackupStage (piece_at 0 (old_bytes walker.change next.table)))
-          (BackingUp on answer)
-      cases true begun = tt
-      cases false begun =
-          let first = is ∙ step-unstaged walker begun in
-          walked-staged on (ap has_staged first) (ap next_table first) (λ new. BackupStage)
-
-  -- an append of an installation
-  pub install-added : (on : Walker) → on ≡ append_on walker →
-      StagesTo (installs_more walker next) (Installing on answer)
-  install-added on is = walked-staged on
-      (ap has_staged is ∙ some-staged (walker.staged + 1) (omega arith)) (ap next_table is)
-      (λ new. Staged new.table)
-
-  -- a step of one
-  pub install-stepped : (on : Walker) → on ≡ step_on walker →
-      StagesTo (install_call walker next) (Installing on answer)
-  install-stepped on is = cases (has_staged walker) refl
-    where
-      cases : (begun : Bool) → has_staged walker ≡ begun →
-          StagesTo (if begun then installs next else stages next) (Installing on answer)
-      cases true begun = tt
-      cases false begun =
-          let first = is ∙ step-unstaged walker begun in
-          walked-staged on (ap has_staged first) (ap next_table first) (λ new. Staged new.table)
+-- so is it at the name for this table, with a walker of which a piece is staged
+pub walked-staged : (walker : Walker) (next : NewTable) → next_table walker ≡ Some next →
+    (on : Walker) → has_staged on ≡ true → next_table on ≡ next_table walker →
+    (name_of : NewTable → Name) →
+    (if has_staged on then option_map name_of (next_table on) else None) ≡ Some (name_of next)
+walked-staged walker next is_next on begun same name_of =
+    ap (λ (one : Bool). if one then option_map name_of (next_table on) else None) begun
+    ∙ ap (option_map name_of) (same ∙ is_next)
 
 -- ---- The session
 

@@ -1,39 +1,41 @@
 -- Claim: each step of a keeper on its way out leads to the next state of it with the same answer, or
 -- to the answer of a fault (`lowers`, `stages`, `frees`).
--- Way: the typed step gives the standing, and what it leaves of the standing keeps the answer due. Each
--- call may follow whatever the answer tells (`out-follows`).
-use Rattle.std.proofs.Common.{◌≡◌, refl, sym, ap, subst, ◌∙◌, ◌≤◌, ℕ, inl, Some, Result, Ok, Err}
-use Rattle.acct_outside.specs.declared.FolderFault.{FolderFault}
+-- Way: the typed step gives the standing, and what it leaves of the standing keeps the answer due
+-- (`out-turn`). Each call may follow whatever the answer tells (`out-follows`).
+use Rattle.std.proofs.Common.{◌≡◌, refl, sym, ap, subst, ◌∙◌, ℕ, inl, Some, IfSome, Ok}
 use Rattle.acct_outside.specs.declared.Name.TheVariants.{FreeStage, Lock}
 use Rattle.acct_outside.specs.Tokens.{Token, free_text}
-use Rattle.acct_outside.specs.Calls.{Call, writes, renames, removes}
+use Rattle.acct_outside.specs.Calls.{Answer, Call, CallResult, writes, renames, removes}
 use Rattle.suite_rules.specs.OwnLock.{kept_number}
-use Rattle.suite_rules.specs.Outcomes.{LeadsTo}
-use Rattle.suite_rules.specs.Standing.{Standing}
-use Rattle.suite_rules.specs.Steps.{StandsIn, AlwaysStaysLawful, Leaves, MakesCall, work}
+use Rattle.suite_rules.specs.Standing.{Standing, standing_step}
+use Rattle.suite_rules.specs.Steps.{Leaves, own_command, work}
 use Rattle.lock_steps.specs.States.{Maker, Kept}
 use Rattle.lock_steps.specs.declared.keeping.Ended.{Ended}
 use Rattle.lock_steps.specs.Outcomes.{as_it_came, cleaned_once, freeing_of, the_end}
 use Rattle.lock_steps.specs.NextCall.{unlocking_call}
+use Rattle.lock_steps.specs.Steps.{FreesLock}
 use Rattle.lock_steps.specs.Stands.{Keeps, KnowsAnything, HasStagedFree, HasFreed}
 use Rattle.suite_answers.specs.declared.cause.Cause.{Cause}
 use Rattle.suite_answers.specs.declared.cause.Cause.TheVariants.{DiskFault}
 use Rattle.suite_answers.specs.declared.answer.Answer.{Answer as FinalAnswer}
 use Rattle.suite_answers.specs.Reasons.{stage_of}
+use Rattle.suite_session.specs.declared.state.State.{State}
 use Rattle.suite_session.specs.declared.state.State.TheVariants.{Unlocking, Freeing, Answering}
 use Rattle.suite_session.specs.Runner.{Runner}
 use Rattle.acct_outside.specs.Moment.{Moment}
 use Rattle.acct_outside.specs.declared.CommitStage.{CommitStage}
-use Rattle.suite_session.specs.Moment.{Runs}
-use Rattle.suite_session.specs.Telling.{IsLeavingCall, MayFollow}
-use Rattle.suite_session.specs.Stands.{IsOutside, StandsUnlocking, StandsFreeing, Turns}
+use Rattle.suite_session.specs.Moment.{At, Runs}
+use Rattle.suite_session.specs.Telling.{IsLeavingCall, IsToTell, MayFollow}
+use Rattle.suite_session.specs.Stands.{HasToGive, IsOutside, KnowsDecided, StagesTo, StandsAs, StandsFreeing, StandsUnlocking, TellsOutside, Turns}
+use Rattle.suite_session.specs.Looks.{LooksLess}
+use Rattle.suite_session.specs.NextCall.{state_call}
 use Rattle.suite_session.proofs.DueTextLemmas.{free-due}
 use Rattle.suite_session.proofs.TurnLemmas.{goes-on, extended, turns}
 use Rattle.suite_session.proofs.WritingLemmas.{IsTurnCall}
 use Rattle.suite_session.proofs.LeadsLemmas.{leads-on}
 use Rattle.suite_session.proofs.LeavingLemmas.{clean-stays, freed-left}
 use Rattle.suite_session.proofs.LooksLemmas.{few-less}
-use Rattle.suite_session.proofs.MeetingLemmas.{leads-done, quiet-on}
+use Rattle.suite_session.proofs.MeetingLemmas.{IsQuiet, leads-done, quiet-on}
 use Rattle.suite_rules.proofs.StepLemmas.{may-answer-now}
 use Rattle.suite_session.proofs.DueLemmas.{gives-stay}
 
@@ -68,137 +70,113 @@ module _ (before now : Moment) (runner : Runner) (answer : FinalAnswer) where
   abbrev commit : CommitStage
   commit = stage_of answer.outcome.cause
 
+  -- the answer tells no fault outside the session, and of a decision a keeper knows that no intent stands
+  abbrev IsClean : Moment → Type 0
+  IsClean one = IfSome one.told (KnowsDecided runner.token answer.outcome.cause)
+
+  -- What stood so makes this call of its way out, and what was reached stands so, with the number that it
+  -- keeps: then its answer stays due, and of each state that is to tell no more a turn leads to the next.
+  out-turn : (Held : Standing → Type 0) (number : ℕ) →
+      ((one : Standing) → Held one → kept_number one.own ≡ Some number) →
+      At before runner commit Held → (token : Token) → token ≡ runner.token → IsClean before →
+      (IsOutside answer.outcome.cause → ⊥) → HasToGive before runner answer → (call : Call) →
+      IsTurnCall (Runs runner commit Held) call → IsLeavingCall call → IsQuiet call →
+      ((result : CallResult (Answer call)) (one : Standing) →
+      own_command (standing_step call result one) ≡ own_command one) → {S : Type 0}
+      (next reached : S) (Holds : S → Standing → Type 0) →
+      ((one : Standing) → Holds reached one → kept_number one.own ≡ Some number) →
+      FreesLock before now token call next Holds (Ok reached) → (old state : State) →
+      state_call old ≡ call → ((met : Cause) → IsToTell old met → answer.outcome.cause ≡ met) →
+      ((met : Cause) → answer.outcome.cause ≡ met → IsToTell state met) →
+      (At now runner commit (Holds reached) → IsClean now → HasToGive now runner answer →
+      StandsAs now runner state) →
+      (TellsOutside state → ⊥) → StagesTo call state → LooksLess old state →
+      Turns before now runner old state
+  out-turn Held number has stands token same clean quiet gives call of_turn leaving shows_none own
+      next reached Holds has_still takes old state called told tells stood quiet_state staged less =
+      let done = leads-done next as_it_came takes.call.answer reached takes.call.shown in
+      let stands_now = goes-on before now runner commit Held stands token same call of_turn _ own
+      takes.call (Holds reached) takes.next in
+      let left = subst (λ (one : Token). Leaves work one before now) same takes.left in
+      turns before now runner commit Held stands token same call of_turn _ own takes.call
+      takes.lawful takes.faults.never_falls old state called
+      (quiet-on call shows_none takes.call.answer done.0 Held state done.1)
+      (λ met is. (
+        tells met (told met is),
+        out-follows answer.outcome.cause met (told met is) quiet call leaving,
+      ))
+      (stood stands_now
+      (clean-stays runner.token answer.outcome.cause before.told now.told left clean)
+      (gives-stay runner answer commit number Held (Holds reached) has has_still before now stands
+      stands_now left
+      (extended before now runner commit Held stands token same call of_turn _ own takes.call)
+      gives))
+      quiet_state staged less
+
   module _ (keeper : Kept) (stood : StandsUnlocking before runner keeper answer) where
     -- it removes a lower lock
     pub lowers : (number : ℕ) (kept : Kept) → unlocking_call keeper ≡ removes (Lock number) →
-        MakesCall before now keeper.token (removes (Lock number))
-        (λ result. LeadsTo (cleaned_once keeper) as_it_came result (Ok kept)) →
-        StandsIn now keeper.token (Keeps kept KnowsAnything) →
-        Leaves work keeper.token before now →
-        AlwaysStaysLawful before now → before.faults ≤ now.faults →
+        FreesLock before now keeper.token (removes (Lock number)) (cleaned_once keeper)
+        (λ one. Keeps one KnowsAnything) (Ok kept) →
         Turns before now runner (Unlocking keeper answer) (Unlocking kept answer)
-    lowers number kept called made next left lawful never_falls =
-        let is = leads-on (cleaned_once keeper) as_it_came made.answer kept made.shown in
-        let call = removes (Lock number) in
-        let stands = goes-on before now runner commit (Keeps keeper KnowsAnything) stood.stands
-        keeper.token stood.same call tt _ (λ result stood. refl) made (Keeps kept KnowsAnything)
-        next in
-        let kept_work = subst (λ (token : Token). Leaves work token before now) stood.same
-        left in
-        turns before now runner commit (Keeps keeper KnowsAnything) stood.stands keeper.token
-        stood.same call tt _ (λ result stood. refl) made lawful never_falls
-        (Unlocking keeper answer) (Unlocking kept answer) called
-        (quiet-on call (λ given one met shows. shows) made.answer tt _ _
-        (leads-done _ _ _ _ made.shown).1)
-        (λ met is_told. (
-          is_told,
-          out-follows answer.outcome.cause met is_told stood.quiet call tt,
-        ))
-        (record {
+    lowers number kept called takes =
+        let is = leads-on (cleaned_once keeper) as_it_came takes.call.answer kept takes.call.shown in
+        out-turn (Keeps keeper KnowsAnything) keeper.number (kept-number keeper) stood.stands
+        keeper.token stood.same stood.clean stood.quiet stood.gives (removes (Lock number)) tt tt
+        (λ given one met shows. shows) (λ result one. refl) (cleaned_once keeper) kept
+        (λ one. Keeps one KnowsAnything)
+        (λ one keeps. kept-number kept one keeps ∙ ap (λ (other : Kept). Some other.number) is)
+        takes (Unlocking keeper answer) (Unlocking kept answer) called (λ met told. told)
+        (λ met told. told)
+        (λ stands clean gives. record {
           same = ap (λ (one : Kept). one.token) is ∙ stood.same;
           stands = stands;
-          clean = clean-stays runner.token answer.outcome.cause before.told now.told kept_work
-              stood.clean;
+          clean = clean;
           quiet = stood.quiet;
-          gives = gives-stay runner answer commit keeper.number (Keeps keeper KnowsAnything)
-              (Keeps kept KnowsAnything) (kept-number keeper)
-              (λ one keeps. kept-number kept one keeps
-              ∙ ap (λ (other : Kept). Some other.number) is)
-              before now stood.stands stands
-              kept_work
-              (extended before now runner commit (Keeps keeper KnowsAnything) stood.stands
-              keeper.token stood.same call tt _ (λ result stood. refl) made)
-              stood.gives;
+          gives = gives;
         })
-        (λ fault. fault) tt
-        (few-less (Unlocking keeper answer) (Unlocking kept answer) tt refl)
+        (λ fault. fault) tt (few-less (Unlocking keeper answer) (Unlocking kept answer) tt refl)
 
     -- it stages the free text
     pub stages : (freeing : Maker) → unlocking_call keeper ≡ writes FreeStage free_text →
-        MakesCall before now keeper.token
-        (writes FreeStage free_text)
-        (λ result. LeadsTo (freeing_of keeper) as_it_came result (Ok freeing)) →
-        StandsIn now keeper.token (HasStagedFree freeing) →
-        Leaves work keeper.token before now →
-        AlwaysStaysLawful before now → before.faults ≤ now.faults →
+        FreesLock before now keeper.token (writes FreeStage free_text) (freeing_of keeper)
+        HasStagedFree (Ok freeing) →
         Turns before now runner (Unlocking keeper answer) (Freeing freeing answer)
-    stages freeing called made next left lawful never_falls =
-        let is = leads-on (freeing_of keeper) as_it_came made.answer freeing made.shown in
-        let call = writes FreeStage free_text in
-        let due : IsTurnCall (Runs runner commit (Keeps keeper KnowsAnything)) call =
-        free-due runner commit keeper in
-        let stands = goes-on before now runner commit (Keeps keeper KnowsAnything) stood.stands
-        keeper.token stood.same call due _ (λ result stood. refl) made
-        (HasStagedFree freeing) next in
-        let kept_work = subst (λ (token : Token). Leaves work token before now) stood.same
-        left in
-        turns before now runner commit (Keeps keeper KnowsAnything) stood.stands keeper.token
-        stood.same call due _ (λ result stood. refl) made lawful never_falls
-        (Unlocking keeper answer) (Freeing freeing answer) called
-        (quiet-on call (λ given one met shows. shows) made.answer tt _ _
-        (leads-done _ _ _ _ made.shown).1)
-        (λ met is_told. (
-          is_told,
-          out-follows answer.outcome.cause met is_told stood.quiet call tt,
-        ))
-        (record {
+    stages freeing called takes =
+        let is = leads-on (freeing_of keeper) as_it_came takes.call.answer freeing takes.call.shown in
+        out-turn (Keeps keeper KnowsAnything) keeper.number (kept-number keeper) stood.stands
+        keeper.token stood.same stood.clean stood.quiet stood.gives (writes FreeStage free_text)
+        (free-due runner commit keeper) tt (λ given one met shows. shows) (λ result one. refl)
+        (freeing_of keeper) freeing HasStagedFree (λ one staged. staged-number freeing one staged
+        ∙ ap (λ (other : Maker). Some other.number) is)
+        takes (Unlocking keeper answer) (Freeing freeing answer) called (λ met told. told)
+        (λ met told. told)
+        (λ stands clean gives. record {
           same = ap (λ (one : Maker). one.token) is ∙ stood.same;
           stands = stands;
-          clean = clean-stays runner.token answer.outcome.cause before.told now.told kept_work
-              stood.clean;
+          clean = clean;
           quiet = stood.quiet;
-          gives = gives-stay runner answer commit keeper.number (Keeps keeper KnowsAnything)
-              (HasStagedFree freeing) (kept-number keeper)
-              (λ one staged. staged-number freeing one staged
-              ∙ ap (λ (other : Maker). Some other.number) is)
-              before now stood.stands stands
-              kept_work
-              (extended before now runner commit (Keeps keeper KnowsAnything) stood.stands
-              keeper.token stood.same call due _ (λ result stood. refl) made)
-              stood.gives;
+          gives = gives;
         })
-        (λ fault. fault) refl
-        (few-less (Unlocking keeper answer) (Freeing freeing answer) tt refl)
+        (λ fault. fault) refl (few-less (Unlocking keeper answer) (Freeing freeing answer) tt refl)
 
   module _ (freeing : Maker) (stood : StandsFreeing before runner freeing answer) where
     -- it moves the free text to its lock
     pub frees : (ended : Ended) →
-        MakesCall before now freeing.token
-        (renames FreeStage (Lock freeing.number))
-        (λ result. LeadsTo the_end as_it_came result (Ok ended)) →
-        StandsIn now freeing.token (HasFreed freeing.number) →
-        Leaves work freeing.token before now →
-        AlwaysStaysLawful before now → before.faults ≤ now.faults →
+        FreesLock before now freeing.token (renames FreeStage (Lock freeing.number)) the_end
+        (λ end. HasFreed freeing.number) (Ok ended) →
         Turns before now runner (Freeing freeing answer) (Answering answer)
-    frees ended made next left lawful never_falls =
-        let call = renames FreeStage (Lock freeing.number) in
-        let stands = goes-on before now runner commit (HasStagedFree freeing) stood.stands
-        freeing.token stood.same call tt _ (λ result stood. refl) made (HasFreed freeing.number)
-        next in
-        let kept_work = subst (λ (token : Token). Leaves work token before now) stood.same
-        left in
-        turns before now runner commit (HasStagedFree freeing) stood.stands freeing.token
-        stood.same call tt _ (λ result stood. refl) made lawful never_falls
-        (Freeing freeing answer) (Answering answer) refl
-        (quiet-on call (λ given one met shows. shows) made.answer tt _ _
-        (leads-done _ _ _ _ made.shown).1)
-        (λ met is_told. (
-          inl is_told,
-          out-follows answer.outcome.cause met is_told stood.quiet call tt,
-        ))
-        (record {
+    frees ended takes = out-turn (HasStagedFree freeing) freeing.number (staged-number freeing)
+        stood.stands freeing.token stood.same stood.clean stood.quiet stood.gives
+        (renames FreeStage (Lock freeing.number)) tt tt (λ given one met shows. shows)
+        (λ result one. refl) the_end ended (λ end. HasFreed freeing.number)
+        (freed-number freeing.number) takes (Freeing freeing answer) (Answering answer) refl
+        (λ met told. told) (λ met told. inl told)
+        (λ stands clean gives. record {
           may_answer = may-answer-now now.admits runner.token _ now.told stands;
-          gives = gives-stay runner answer commit freeing.number (HasStagedFree freeing)
-              (HasFreed freeing.number) (staged-number freeing) (freed-number freeing.number)
-              before now stood.stands stands
-              kept_work
-              (extended before now runner commit (HasStagedFree freeing) stood.stands
-              freeing.token stood.same call tt _ (λ result stood. refl) made)
-              stood.gives;
+          gives = gives;
           left = λ goes_on. freed-left runner.token answer.outcome.cause now.admits
               (Runs runner commit (HasFreed freeing.number)) freeing.number
-              (λ one runs. runs.holds) now.told stands
-              (clean-stays runner.token answer.outcome.cause before.told now.told kept_work
-              stood.clean);
+              (λ one runs. runs.holds) now.told stands clean;
         })
         stood.quiet tt (few-less (Freeing freeing answer) (Answering answer) tt refl)

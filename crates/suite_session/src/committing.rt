@@ -5,8 +5,8 @@
 // 3. It puts the tables in place, and removes the intent (`install`).
 //
 // What is staged goes out in pieces: in each of the three a further piece comes before the next step.
-ghost use Rattle.std.specs.Prelude.{◌≡◌, ◌<◌};
-ghost use Rattle.commit_steps.specs.States.{backup_pieces, install_pieces, intent_left, steps_left};
+ghost use Rattle.std.specs.Prelude.{◌≡◌};
+ghost use Rattle.commit_steps.specs.States.{intent_left};
 ghost use Rattle.suite_session.specs.Stands.{StandsAs};
 ghost use Rattle.suite_session.specs.Turning.{TakesTurn};
 
@@ -14,12 +14,11 @@ use crate::runner::Runner;
 use crate::state::State;
 use crate::unlocking::given_up;
 use acct_outside::Folder;
-use commit_steps::{Backing, Installing, IntentStaged};
+use commit_steps::{Backing, Installing, IntentStaged, Walked};
 use std::alloc::Global;
 use suite_answers::Answer;
 
-/// Appends a further piece of the next backup; where none is left, stages its first piece or moves it, or
-/// stages the intent once no table is left.
+/// Makes the next call of the backups, of which the last stages the first piece of the intent.
 pub(crate) fn back_up<F: Folder>(
     alloc: Global,
     runner: &Runner,
@@ -31,53 +30,9 @@ pub(crate) fn back_up<F: Folder>(
     ensures { TakesTurn (F.moment folder.old) (F.moment folder.new) runner.now
         (State.BackingUp backing answer) result }
 {
-    if backing.pieces() == 0 {
-        return back_up_table(alloc, runner, backing, answer, folder);
-    }
-    match backing.append_next(folder) {
-        Ok(backing) => State::BackingUp(backing, answer),
-        Err(fault) => given_up(alloc, runner, answer, fault.stage, fault.fault),
-    }
-}
-
-// Stages the first piece of the next backup or moves it, or stages the intent once no table is left.
-fn back_up_table<F: Folder>(
-    alloc: Global,
-    runner: &Runner,
-    backing: Backing,
-    answer: Answer,
-    folder: &mut F,
-) -> State
-    requires whole { backup_pieces backing ≡ 0 }
-    requires stands { StandsAs (F.moment folder.old) runner.now (State.BackingUp backing answer) }
-    ensures { TakesTurn (F.moment folder.old) (F.moment folder.new) runner.now
-        (State.BackingUp backing answer) result }
-{
-    if backing.left() == 0 {
-        return stage_intent(alloc, runner, backing, answer, folder);
-    }
-    match backing.back_up_next(folder) {
-        Ok(backing) => State::BackingUp(backing, answer),
-        Err(fault) => given_up(alloc, runner, answer, fault.stage, fault.fault),
-    }
-}
-
-// Stages the first piece of the intent.
-fn stage_intent<F: Folder>(
-    alloc: Global,
-    runner: &Runner,
-    backing: Backing,
-    answer: Answer,
-    folder: &mut F,
-) -> State
-    requires left { steps_left backing ≡ 0 }
-    requires whole { backup_pieces backing ≡ 0 }
-    requires stands { StandsAs (F.moment folder.old) runner.now (State.BackingUp backing answer) }
-    ensures { TakesTurn (F.moment folder.old) (F.moment folder.new) runner.now
-        (State.BackingUp backing answer) result }
-{
-    match backing.stage_intent(folder) {
-        Ok(staged) => State::Committing(staged, answer),
+    match backing.go_on(folder) {
+        Ok(Walked::More(backing)) => State::BackingUp(backing, answer),
+        Ok(Walked::Done(staged)) => State::Committing(staged, answer),
         Err(fault) => given_up(alloc, runner, answer, fault.stage, fault.fault),
     }
 }
@@ -122,8 +77,7 @@ fn commit_intent<F: Folder>(
     }
 }
 
-/// Appends a further piece of the next table; where none is left, stages its first piece or moves it, or
-/// removes the intent once no table is left.
+/// Makes the next call of the installation, of which the last removes the intent.
 pub(crate) fn install<F: Folder>(
     alloc: Global,
     runner: &Runner,
@@ -135,55 +89,9 @@ pub(crate) fn install<F: Folder>(
     ensures { TakesTurn (F.moment folder.old) (F.moment folder.new) runner.now
         (State.Installing installing answer) result }
 {
-    if installing.pieces() == 0 {
-        return install_table(alloc, runner, installing, answer, folder);
-    }
-    match installing.append_next(folder) {
-        Ok(installing) => State::Installing(installing, answer),
-        Err(fault) => given_up(alloc, runner, answer, fault.stage, fault.fault),
-    }
-}
-
-// Stages the first piece of the next table or moves it, or removes the intent once no table is left.
-fn install_table<F: Folder>(
-    alloc: Global,
-    runner: &Runner,
-    installing: Installing,
-    answer: Answer,
-    folder: &mut F,
-) -> State
-    requires whole { install_pieces installing ≡ 0 }
-    requires stands { StandsAs (F.moment folder.old) runner.now
-        (State.Installing installing answer) }
-    ensures { TakesTurn (F.moment folder.old) (F.moment folder.new) runner.now
-        (State.Installing installing answer) result }
-{
-    if installing.left() == 0 {
-        return clear(alloc, runner, installing, answer, folder);
-    }
-    match installing.install_next(folder) {
-        Ok(installing) => State::Installing(installing, answer),
-        Err(fault) => given_up(alloc, runner, answer, fault.stage, fault.fault),
-    }
-}
-
-// Removes the intent.
-fn clear<F: Folder>(
-    alloc: Global,
-    runner: &Runner,
-    installing: Installing,
-    answer: Answer,
-    folder: &mut F,
-) -> State
-    requires left { steps_left installing ≡ 0 }
-    requires whole { install_pieces installing ≡ 0 }
-    requires stands { StandsAs (F.moment folder.old) runner.now
-        (State.Installing installing answer) }
-    ensures { TakesTurn (F.moment folder.old) (F.moment folder.new) runner.now
-        (State.Installing installing answer) result }
-{
-    match installing.clear(folder) {
-        Ok(cleared) => State::Unlocking(cleared.release().forget(), answer),
+    match installing.go_on(folder) {
+        Ok(Walked::More(installing)) => State::Installing(installing, answer),
+        Ok(Walked::Done(keeper)) => State::Unlocking(keeper.forget(), answer),
         Err(fault) => given_up(alloc, runner, answer, fault.stage, fault.fault),
     }
 }

@@ -3,14 +3,14 @@ use Rattle.acct_outside.specs.declared.CommitStage.TheVariants.{Before}
 use Rattle.acct_outside.specs.declared.Name.TheVariants.{IntentStage}
 use Rattle.acct_outside.specs.Calls.{appends}
 use Rattle.suite_rules.specs.Outcomes.{before_commit}
-use Rattle.commit_steps.specs.States.{append_intent, intent_piece}
+use Rattle.commit_steps.specs.States.{Stager, append_intent, intent_piece}
 use Rattle.commit_steps.specs.Stands.{HasStagedIntent}
 use Rattle.commit_steps.proofs.NextLemmas.{commits-on}
 use Rattle.suite_session.specs.declared.state.State.TheVariants.{Committing}
 use Rattle.suite_session.proofs.LooksLemmas.{few-less}
-use Rattle.suite_session.proofs.TurnLemmas.{leads-turns, leads-faults}
+use Rattle.suite_session.proofs.TurnLemmas.{goes-on, leads-turns, leads-faults}
 use Rattle.suite_session.proofs.LeadsLemmas.{leads-on}
-use Rattle.suite_session.proofs.CommittingTurns.{adds-intent}
+use Rattle.suite_session.proofs.CommittingTurns.{changes-to}
 use Rattle.suite_session.proofs.CallsLemmas.{answers-append, committing-some, some-left}
 use Rattle.suite_session.proofs.CommitCalls.{committing-appends, staged-more}
 use Rattle.suite_session.proofs.DueTextLemmas.{intent-more-due}
@@ -32,6 +32,8 @@ returns-in-Ok g c = record {
       let some = some-left _ _ c.pieces.ensures c.if-pieces-eq0.false in
       let call = appends IntentStage (intent_piece stager.staged stager.change) in
       let due = intent-more-due c.args.runner.now c.args.answer stager c.requires.of_change some in
+      let is = leads-on (append_intent stager) before_commit _ c.in-Ok.staged
+      c.in-Ok.ensures.call.shown in
       leads-turns before now c.args.runner.now Before (HasStagedIntent stager) c.requires.stands
       stager.change.inputs.keeper.token c.requires.same call due _ (λ result stood. refl)
       c.in-Ok.ensures.call
@@ -41,8 +43,12 @@ returns-in-Ok g c = record {
       (Committing stager c.args.answer) (Committing c.in-Ok.staged c.args.answer)
       (commits-on stager some)
       (λ met none. absurd none)
-      (adds-intent before now c.args.runner.now c.args.answer stager c.requires call due
-      (λ result stood. refl) c.in-Ok.staged c.in-Ok.ensures.call c.in-Ok.ensures.next)
+      (changes-to before now c.args.runner.now c.args.answer stager.change (HasStagedIntent stager)
+      c.requires c.in-Ok.staged.change (HasStagedIntent c.in-Ok.staged)
+      (ap (λ (one : Stager). one.change) is)
+      (goes-on before now c.args.runner.now Before (HasStagedIntent stager) c.requires.stands
+      stager.change.inputs.keeper.token c.requires.same call due _ (λ result stood. refl)
+      c.in-Ok.ensures.call (HasStagedIntent c.in-Ok.staged) c.in-Ok.ensures.next))
       (λ fault. fault) refl
       (few-less (Committing stager c.args.answer) (Committing c.in-Ok.staged c.args.answer) tt refl);
   counts =

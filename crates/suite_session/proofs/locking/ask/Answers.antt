@@ -1,15 +1,14 @@
-use Rattle.std.proofs.Common.{refl, sym, ap, ◌∙◌, Err, arith}
+use Rattle.std.proofs.Common.{refl, ◌∙◌, arith}
 use Rattle.suite_session.specs.declared.state.State.TheVariants.{Asking}
 use Rattle.acct_outside.specs.Calls.{asks}
 use Rattle.lock_steps.specs.Stands.{HasReadHeld, HasJudged}
 use Rattle.suite_session.proofs.MetLemmas.{ask-met}
 use Rattle.suite_session.proofs.LooksLemmas.{ask-less}
-use Rattle.suite_session.proofs.TurnLemmas.{ends, goes-on, turns}
+use Rattle.suite_session.proofs.TurnLemmas.{goes-on, turns}
 use Rattle.suite_session.proofs.LeavingLemmas.{ask-unkept}
-use Rattle.suite_session.proofs.LockingLemmas.{end-plain, end-stage, end-failed, asks-token}
-use Rattle.suite_session.proofs.LockingTurns.{judged-stands, judged-quiet}
+use Rattle.suite_session.proofs.LockingLemmas.{asks-token}
+use Rattle.suite_session.proofs.LockingTurns.{lock-ends, judged-stands, judged-quiet}
 use Rattle.suite_session.proofs.MeetingLemmas.{ask-on, ask-ends}
-use Rattle.suite_session.specs.Locking.{cause_of_end}
 use Rattle.acct_outside.specs.declared.CommitStage.TheVariants.{Before}
 use Rattle.suite_session.proofs.CallsLemmas.{answers-near}
 use Rattle.suite_session.proofs.LockCalls.{ask-calls}
@@ -47,21 +46,15 @@ returns-in-Err g c = record {
   turns =
       let before = g.F.Folder.moment c.args.folder.now in
       let now = g.F.Folder.moment c.ask.new.folder in
-      ends before now c.args.runner.now Before (HasReadHeld c.args.asking) c.requires.1
-      c.args.asking.token c.requires.0 (asks c.args.asking.asked) tt _ (λ result stood. refl)
-      c.in-Err.ensures.call
-      c.ask.ensures.lawful c.ask.ensures.faults.never_falls
-      (Asking c.args.asking) c.stopped.result refl
+      lock-ends before now c.args.runner.now (HasReadHeld c.args.asking) c.requires.1
+      c.args.asking.token c.requires.0 (Asking c.args.asking) tt (λ result stood. refl) _ _
+      c.in-Err.end c.in-Err.ensures c.stopped.result c.stopped.ensures
       (ask-ends c.args.runner.now.asked.request.tool c.stopped.result c.args.asking _ c.in-Err.end
       c.in-Err.ensures.call.shown c.stopped.ensures)
       (λ met none. absurd none)
-      (cause_of_end c.in-Err.end) c.stopped.ensures (end-plain c.in-Err.end)
       (ask-met c.args.runner.now now.told c.args.asking _ c.in-Err.end c.requires.2
       c.in-Err.ensures.call.shown)
-      (ask-unkept c.args.asking _ c.in-Err.end c.in-Err.ensures.call.shown)
-      (sym (end-stage c.in-Err.end))
-      (λ fault. c.ask.ensures.faults.failed
-      (c.in-Err.is ∙ ap Err (end-failed c.in-Err.end fault))) tt;
+      (ask-unkept c.args.asking _ c.in-Err.end c.in-Err.ensures.call.shown) tt;
   counts =
       answers-near _ _ (Asking c.args.asking) c.stopped.result c.stopped.ensures (omega arith);
 }

@@ -1,17 +1,17 @@
-use Rattle.std.proofs.Common.{refl, sym, ap, ◌∙◌, ◌+◌, Err, arith}
+use Rattle.std.proofs.Common.{refl, ◌∙◌, ◌+◌, arith}
 use Rattle.suite_session.specs.declared.state.State.TheVariants.{Claiming, Confirming}
 use Rattle.acct_outside.specs.Calls.{creates}
 use Rattle.lock_steps.specs.Stands.{HasMade, HasJudged}
 use Rattle.suite_session.proofs.MetLemmas.{claim-met}
 use Rattle.suite_session.proofs.LooksLemmas.{few-less}
-use Rattle.suite_session.proofs.TurnLemmas.{ends, goes-on, turns}
+use Rattle.suite_session.proofs.TurnLemmas.{goes-on, turns}
 use Rattle.suite_session.proofs.LeavingLemmas.{claim-unkept}
-use Rattle.suite_session.proofs.LockingLemmas.{end-plain, end-stage, end-failed, claims-token}
+use Rattle.suite_session.proofs.LockingLemmas.{claims-token}
 use Rattle.suite_session.proofs.MeetingLemmas.{claim-on, claim-ends}
-use Rattle.suite_session.specs.Locking.{cause_of_end}
 use Rattle.acct_outside.specs.declared.CommitStage.TheVariants.{Before}
 use Rattle.suite_session.proofs.CallsLemmas.{answers-near}
 use Rattle.suite_session.proofs.LockCalls.{claim-calls}
+use Rattle.suite_session.proofs.LockingTurns.{lock-ends}
 use Rattle.suite_session.proofs.locking.claim.Goals as goal
 
 pub returns-in-Ok : goal.returns-in-Ok
@@ -46,22 +46,15 @@ returns-in-Err g c = record {
   turns =
       let before = g.F.Folder.moment c.args.folder.now in
       let now = g.F.Folder.moment c.claim.new.folder in
-      ends before now c.args.runner.now Before (HasJudged c.args.judged) c.requires.1
-      c.args.judged.token c.requires.0 (creates (c.args.judged.greatest + 1)) tt _
-      (λ result stood. refl)
-      c.in-Err.ensures.call
-      c.claim.ensures.lawful c.claim.ensures.faults.never_falls
-      (Claiming c.args.judged) c.stopped.result refl
+      lock-ends before now c.args.runner.now (HasJudged c.args.judged) c.requires.1
+      c.args.judged.token c.requires.0 (Claiming c.args.judged) tt (λ result stood. refl) _ _
+      c.in-Err.end c.in-Err.ensures c.stopped.result c.stopped.ensures
       (claim-ends c.args.runner.now.asked.request.tool c.stopped.result c.args.judged _ c.in-Err.end
       c.in-Err.ensures.call.shown c.stopped.ensures)
       (λ met none. absurd none)
-      (cause_of_end c.in-Err.end) c.stopped.ensures (end-plain c.in-Err.end)
       (claim-met c.args.runner.now now.told c.args.judged _ c.in-Err.end
       c.in-Err.ensures.call.shown)
-      (claim-unkept c.args.judged _ c.in-Err.end c.in-Err.ensures.call.shown)
-      (sym (end-stage c.in-Err.end))
-      (λ fault. c.claim.ensures.faults.failed
-      (c.in-Err.is ∙ ap Err (end-failed c.in-Err.end fault))) tt;
+      (claim-unkept c.args.judged _ c.in-Err.end c.in-Err.ensures.call.shown) tt;
   counts =
       answers-near _ _ (Claiming c.args.judged) c.stopped.result c.stopped.ensures (omega arith);
 }

@@ -1,14 +1,12 @@
-use Rattle.std.proofs.Common.{refl, sym, ap, ◌∙◌, Err}
+use Rattle.std.proofs.Common.{refl}
 use Rattle.acct_outside.specs.Calls.{lists}
 use Rattle.lock_steps.specs.Stands.{HasMade}
 use Rattle.suite_session.proofs.MetLemmas.{confirm-met}
 use Rattle.suite_session.proofs.LooksLemmas.{confirm-less}
-use Rattle.suite_session.proofs.TurnLemmas.{ends, got, turns}
+use Rattle.suite_session.proofs.TurnLemmas.{got, turns}
 use Rattle.suite_session.proofs.LeavingLemmas.{confirm-unkept}
-use Rattle.suite_session.proofs.LockingLemmas.{end-plain, end-stage, end-failed}
-use Rattle.suite_session.proofs.LockingTurns.{confirm-stands, confirm-quiet}
+use Rattle.suite_session.proofs.LockingTurns.{lock-ends, confirm-stands, confirm-quiet}
 use Rattle.suite_session.proofs.MeetingLemmas.{confirm-on, confirm-ends}
-use Rattle.suite_session.specs.Locking.{cause_of_end}
 use Rattle.acct_outside.specs.declared.CommitStage.TheVariants.{Before}
 use Rattle.suite_session.specs.declared.state.State.TheVariants.{Confirming}
 use Rattle.suite_session.proofs.CallsLemmas.{answers-listed}
@@ -50,21 +48,15 @@ returns-in-Err g c = record {
   turns =
       let before = g.F.Folder.moment c.args.folder.now in
       let now = g.F.Folder.moment c.confirm.new.folder in
-      ends before now c.args.runner.now Before (HasMade c.args.claimed) c.requires.1
-      c.args.claimed.token c.requires.0 (lists) tt _ (λ result stood. refl)
-      c.in-Err.ensures.call
-      c.confirm.ensures.lawful c.confirm.ensures.faults.never_falls
-      (Confirming c.args.claimed) c.stopped.result refl
+      lock-ends before now c.args.runner.now (HasMade c.args.claimed) c.requires.1
+      c.args.claimed.token c.requires.0 (Confirming c.args.claimed) tt (λ result stood. refl) _ _
+      c.in-Err.end c.in-Err.ensures c.stopped.result c.stopped.ensures
       (confirm-ends c.args.runner.now.asked.request.tool c.stopped.result c.args.claimed _
       c.in-Err.end c.in-Err.ensures.call.shown c.stopped.ensures)
       (λ met none. absurd none)
-      (cause_of_end c.in-Err.end) c.stopped.ensures (end-plain c.in-Err.end)
       (confirm-met c.args.runner.now now.told c.args.claimed _ c.in-Err.end
       c.in-Err.ensures.call.shown)
-      (confirm-unkept c.args.claimed _ c.in-Err.end c.in-Err.ensures.call.shown)
-      (sym (end-stage c.in-Err.end))
-      (λ fault. c.confirm.ensures.faults.failed
-      (c.in-Err.is ∙ ap Err (end-failed c.in-Err.end fault))) tt;
+      (confirm-unkept c.args.claimed _ c.in-Err.end c.in-Err.ensures.call.shown) tt;
   counts =
       answers-listed (g.F.Folder.moment c.confirm.new.folder).told
       (g.F.Folder.moment c.confirm.new.folder).journal c.args.runner.now c.args.claimed

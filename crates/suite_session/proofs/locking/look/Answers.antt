@@ -1,14 +1,12 @@
-use Rattle.std.proofs.Common.{refl, sym, ap, ◌∙◌, Err, arith}
+use Rattle.std.proofs.Common.{refl, arith}
 use Rattle.acct_outside.specs.Calls.{lists}
 use Rattle.suite_session.specs.Causes.{HasListedNone}
 use Rattle.suite_session.proofs.MetLemmas.{look-met}
 use Rattle.suite_session.proofs.LooksLemmas.{look-less}
-use Rattle.suite_session.proofs.TurnLemmas.{ends, turns}
+use Rattle.suite_session.proofs.TurnLemmas.{turns}
 use Rattle.suite_session.proofs.LeavingLemmas.{look-unkept}
-use Rattle.suite_session.proofs.LockingLemmas.{end-plain, end-stage, end-failed}
-use Rattle.suite_session.proofs.LockingTurns.{look-stands, look-quiet}
+use Rattle.suite_session.proofs.LockingTurns.{lock-ends, look-stands, look-quiet}
 use Rattle.suite_session.proofs.MeetingLemmas.{look-on, look-ends}
-use Rattle.suite_session.specs.Locking.{cause_of_end}
 use Rattle.acct_outside.specs.declared.CommitStage.TheVariants.{Before}
 use Rattle.suite_session.specs.declared.state.State.TheVariants.{Looking}
 use Rattle.suite_session.proofs.CallsLemmas.{answers-near}
@@ -44,21 +42,15 @@ returns-in-Err g c = record {
   turns =
       let before = g.F.Folder.moment c.args.folder.now in
       let now = g.F.Folder.moment c.look.new.folder in
-      ends before now c.args.runner.now Before (HasListedNone) c.requires.1
-      c.args.looking c.requires.0 (lists) tt _ (λ result stood. refl)
-      c.in-Err.ensures.call
-      c.look.ensures.lawful c.look.ensures.faults.never_falls
-      (Looking c.args.looking) c.stopped.result refl
+      lock-ends before now c.args.runner.now HasListedNone c.requires.1
+      c.args.looking c.requires.0 (Looking c.args.looking) tt (λ result stood. refl) _ _
+      c.in-Err.end c.in-Err.ensures c.stopped.result c.stopped.ensures
       (look-ends c.args.runner.now.asked.request.tool c.stopped.result c.args.looking _ c.in-Err.end
       c.in-Err.ensures.call.shown c.stopped.ensures)
       (λ met none. absurd none)
-      (cause_of_end c.in-Err.end) c.stopped.ensures (end-plain c.in-Err.end)
       (look-met c.args.runner.now now.told c.args.looking _ c.in-Err.end
       c.in-Err.ensures.call.shown)
-      (look-unkept c.args.looking _ c.in-Err.end c.in-Err.ensures.call.shown)
-      (sym (end-stage c.in-Err.end))
-      (λ fault. c.look.ensures.faults.failed
-      (c.in-Err.is ∙ ap Err (end-failed c.in-Err.end fault))) tt;
+      (look-unkept c.args.looking _ c.in-Err.end c.in-Err.ensures.call.shown) tt;
   counts =
       answers-near _ _ (Looking c.args.looking) c.stopped.result c.stopped.ensures (omega arith);
 }

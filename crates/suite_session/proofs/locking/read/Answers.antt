@@ -1,15 +1,13 @@
-use Rattle.std.proofs.Common.{refl, sym, ap, ◌∙◌, Err, arith}
+use Rattle.std.proofs.Common.{refl, arith}
 use Rattle.acct_outside.specs.declared.Name.TheVariants.{Lock}
 use Rattle.acct_outside.specs.Calls.{reads}
 use Rattle.lock_steps.specs.Stands.{HasLooked}
 use Rattle.suite_session.proofs.MetLemmas.{read-met}
 use Rattle.suite_session.proofs.LooksLemmas.{read-less}
-use Rattle.suite_session.proofs.TurnLemmas.{ends, turns}
+use Rattle.suite_session.proofs.TurnLemmas.{turns}
 use Rattle.suite_session.proofs.LeavingLemmas.{read-unkept}
-use Rattle.suite_session.proofs.LockingLemmas.{end-plain, end-stage, end-failed}
-use Rattle.suite_session.proofs.LockingTurns.{read-stands, read-quiet}
+use Rattle.suite_session.proofs.LockingTurns.{lock-ends, read-stands, read-quiet}
 use Rattle.suite_session.proofs.MeetingLemmas.{read-on, read-ends}
-use Rattle.suite_session.specs.Locking.{cause_of_end}
 use Rattle.acct_outside.specs.declared.CommitStage.TheVariants.{Before}
 use Rattle.suite_session.specs.declared.state.State.TheVariants.{Reading}
 use Rattle.suite_session.proofs.CallsLemmas.{answers-near}
@@ -45,21 +43,15 @@ returns-in-Err g c = record {
   turns =
       let before = g.F.Folder.moment c.args.folder.now in
       let now = g.F.Folder.moment c.read.new.folder in
-      ends before now c.args.runner.now Before (HasLooked c.args.seen) c.requires.2
-      c.args.seen.token c.requires.0 (reads (Lock c.args.seen.greatest)) tt _ (λ result stood. refl)
-      c.in-Err.ensures.call
-      c.read.ensures.lawful c.read.ensures.faults.never_falls
-      (Reading c.args.seen) c.stopped.result refl
+      lock-ends before now c.args.runner.now (HasLooked c.args.seen) c.requires.2
+      c.args.seen.token c.requires.0 (Reading c.args.seen) tt (λ result stood. refl) _ _
+      c.in-Err.end c.in-Err.ensures c.stopped.result c.stopped.ensures
       (read-ends c.args.runner.now.asked.request.tool c.stopped.result c.args.seen _ c.in-Err.end
       c.in-Err.ensures.call.shown c.stopped.ensures)
       (λ met none. absurd none)
-      (cause_of_end c.in-Err.end) c.stopped.ensures (end-plain c.in-Err.end)
       (read-met c.args.runner.now now.told c.args.seen _ c.in-Err.end c.requires.1 c.requires.3
       c.in-Err.ensures.call.shown)
-      (read-unkept c.args.seen _ c.in-Err.end c.in-Err.ensures.call.shown)
-      (sym (end-stage c.in-Err.end))
-      (λ fault. c.read.ensures.faults.failed
-      (c.in-Err.is ∙ ap Err (end-failed c.in-Err.end fault))) tt;
+      (read-unkept c.args.seen _ c.in-Err.end c.in-Err.ensures.call.shown) tt;
   counts =
       answers-near _ _ (Reading c.args.seen) c.stopped.result c.stopped.ensures (omega arith);
 }

@@ -22,8 +22,7 @@ returns-in-Ok g c = record {
       let before = g.F.Folder.moment c.args.folder.now in
       let now = g.F.Folder.moment c.move_free.new.folder in
       frees before now c.args.runner.now c.args.answer c.args.freeing c.requires
-      _ c.in-Ok.ensures.call c.in-Ok.ensures.next
-      c.move_free.ensures.left c.move_free.ensures.lawful c.move_free.ensures.faults.never_falls;
+      _ c.in-Ok.ensures;
   counts = other-fewer _ _ refl (omega arith) (omega arith) tt;
 }
 

@@ -26,9 +26,7 @@ returns-in-Ok g c = record {
       let before = g.F.Folder.moment c.args.folder.now in
       let now = g.F.Folder.moment c.stage_free.new.folder in
       stages before now c.args.runner.now c.args.answer c.args.keeper c.requires.stands
-      c.in-Ok.freeing (unlocks-none c.args.keeper c.requires.left) c.in-Ok.ensures.call
-      c.in-Ok.ensures.next
-      c.stage_free.ensures.left c.stage_free.ensures.lawful c.stage_free.ensures.faults.never_falls;
+      c.in-Ok.freeing (unlocks-none c.args.keeper c.requires.left) c.in-Ok.ensures;
   counts =
       other-fewer _ _ refl (unlocking-more c.args.keeper c.args.answer) (omega arith)
       (freed-text c.args.keeper.lower c.requires.left);

@@ -27,8 +27,7 @@ returns-in-Ok g c = record {
       lowers before now c.args.runner.now c.args.answer c.args.keeper c.requires
       _ c.in-Ok.keeper
       (unlocks-some c.args.keeper (some-left _ _ c.lower.ensures c.if-lower-eq0.false))
-      c.in-Ok.ensures.call c.in-Ok.ensures.next
-      c.clean_next.ensures.left c.clean_next.ensures.lawful c.clean_next.ensures.faults.never_falls;
+      c.in-Ok.ensures;
   counts =
       cleaned-calls c.args.keeper c.in-Ok.keeper c.args.answer
       (leads-on (cleaned_once c.args.keeper) _ c.in-Ok.ensures.call.answer c.in-Ok.keeper

@@ -5,15 +5,17 @@ use Rattle.acct_outside.specs.declared.FolderFault.TheVariants.{Failed}
 use Rattle.acct_outside.specs.declared.Name.TheVariants.{BackupStage}
 use Rattle.acct_outside.specs.Pieces.{piece_at}
 use Rattle.acct_outside.specs.Calls.{writes}
-use Rattle.suite_rules.specs.Outcomes.{LeadsTo, before_commit}
+use Rattle.suite_rules.specs.Outcomes.{before_commit}
 use Rattle.suite_rules.proofs.StepLemmas.{Called, called-of}
 use Rattle.lock_steps.proofs.OutcomesLemmas.{counts}
 use Rattle.recovery.proofs.LeadsLemmas.{takes-step}
-use Rattle.commit_steps.specs.States.{Change, Walker, changed, has_staged, old_bytes, old_files, step_on}
-use Rattle.commit_steps.specs.Stands.{BacksUp}
-use Rattle.commit_steps.specs.Outcomes.{backup_call}
-use Rattle.commit_steps.specs.Walks.{WalksOn, token_of}
-use Rattle.commit_steps.proofs.WalksLemmas.{walks-on}
+use Rattle.commit_steps.specs.declared.walking.Walked.{Walked}
+use Rattle.commit_steps.specs.declared.walking.Walked.TheVariants.{More}
+use Rattle.commit_steps.specs.States.{Change, Stager, Walker, begun_of, changed, has_staged, old_bytes, old_files, step_on}
+use Rattle.commit_steps.specs.Stands.{BacksUp, HasStagedIntent}
+use Rattle.commit_steps.specs.Walks.{BacksOn, HoldsWalked, token_of}
+use Rattle.commit_steps.proofs.NextLemmas.{backs-some}
+use Rattle.commit_steps.proofs.WalksLemmas.{leads-as, walked-step, walks-on}
 use Rattle.commit_steps.proofs.BackupLemmas.{moves_backup_of, stages_backup, backup-staged, backup-unstaged, backs-after-move, backs-after-write, may-move-backup, may-stage-backup}
 use Rattle.commit_steps.proofs.backing.Backing.back_up_next.Goals as goal
 
@@ -34,15 +36,20 @@ returns g c =
     let is_staged = c.has_staged-is_staged.ensures
     ∙ ap (λ (walker : Walker). has_staged walker) c.self.view_is in
     let whole = c.requires.whole in
-    let shown = subst (λ (walked : Walker). LeadsTo walked before_commit called c.leads.result)
-    c.step_on.ensures c.leads.ensures.shown in
+    let on : Walked Walker Stager = More (step_on walker) in
+    let shown = leads-as before_commit called c.leads.result
+    (c.step_on-walking.ensures ∙ ap (λ (one : Walker). step_on one) c.self.view_is) More
+    c.leads.ensures.shown in
+    let steps = walked-step walker _ (begun_of walker.change) c.requires.left whole in
+    let calls = backs-some walker next is_next whole in
     elim (cases_Bool (has_staged walker)) as (λ either.
-    WalksOn backup_call BacksUp before_commit walker before now c.leads.result) [
+    BacksOn walker before now c.leads.result) [
       | inl staged ↦
           let came = c.back_up-called.ensures.moved (is_staged ∙ staged) in
-          walks-on backup_call BacksUp before_commit walker next is_next
-          (moves_backup_of next) (backup-staged walker next staged) before now c.leads.result
-          (takes-step (moves_backup_of next) tt (BacksUp walker) BacksUp (step_on walker)
+          walks-on (moves_backup_of next) _ on _ before_commit BacksUp HasStagedIntent walker before
+          now c.leads.result (calls ∙ backup-staged walker next staged) steps
+          (takes-step (moves_backup_of next) tt (BacksUp walker)
+          (HoldsWalked BacksUp HasStagedIntent) on
           (λ answer stood held.
           backs-after-move walker next is_next stands staged whole stood held answer)
           tt (λ result stood held. refl)
@@ -56,10 +63,10 @@ returns g c =
           came.faults))
       | inr unstaged ↦
           let came = c.back_up-called.ensures.staged (is_staged ∙ unstaged) in
-          walks-on backup_call BacksUp before_commit walker next is_next
-          (stages_backup walker next) (backup-unstaged walker next unstaged) before now
-          c.leads.result
-          (takes-step (stages_backup walker next) tt (BacksUp walker) BacksUp (step_on walker)
+          walks-on (stages_backup walker next) _ on _ before_commit BacksUp HasStagedIntent walker
+          before now c.leads.result (calls ∙ backup-unstaged walker next unstaged) steps
+          (takes-step (stages_backup walker next) tt (BacksUp walker)
+          (HoldsWalked BacksUp HasStagedIntent) on
           (backs-after-write walker next is_next unstaged) tt (λ result stood held. refl)
           (may-stage-backup walker next is_next) before_commit before now came.narrows
           (token_of walker) called c.leads.result shown c.requires.stands

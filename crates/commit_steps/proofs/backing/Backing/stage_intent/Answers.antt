@@ -4,14 +4,18 @@ use Rattle.acct_text.specs.Bytes.{Bytes}
 use Rattle.acct_outside.specs.Calls.{writes}
 use Rattle.intent_file.specs.Intent.{ReadsIntent, intent_text}
 use Rattle.acct_outside.specs.declared.FolderFault.TheVariants.{Failed}
-use Rattle.suite_rules.specs.Outcomes.{LeadsTo, before_commit}
+use Rattle.suite_rules.specs.Outcomes.{before_commit}
 use Rattle.suite_rules.proofs.StepLemmas.{Called, called-of}
 use Rattle.lock_steps.proofs.OutcomesLemmas.{counts}
 use Rattle.recovery.proofs.LeadsLemmas.{acts-as, takes-step}
+use Rattle.commit_steps.specs.declared.walking.Walked.{Walked}
+use Rattle.commit_steps.specs.declared.walking.Walked.TheVariants.{Done}
 use Rattle.commit_steps.specs.States.{Change, Stager, Walker, intended, intent_piece, begun_of}
 use Rattle.commit_steps.specs.Stands.{BacksUp, HasStagedIntent}
-use Rattle.commit_steps.specs.Walks.{token_of}
+use Rattle.commit_steps.specs.Walks.{HoldsWalked, token_of}
 use Rattle.commit_steps.proofs.BackupLemmas.{stages_intent, intent-after-write, may-stage-intent}
+use Rattle.commit_steps.proofs.NextLemmas.{backs-none}
+use Rattle.commit_steps.proofs.WalksLemmas.{leads-as, walked-end, walks-on}
 use Rattle.commit_steps.proofs.backing.Backing.stage_intent.Goals as goal
 
 pub write-written-requires-clause-acts : goal.write-written-requires-clause-acts
@@ -36,18 +40,22 @@ returns g c =
     let reads_it = subst (λ (change : Change).
     ReadsIntent (intent_text (intended change)) (intended change)) change
     c.intent_piece-piece.ensures.reads in
-    let shown = subst (λ (next : Stager). LeadsTo next before_commit written c.leads.result)
-    (c.of.ensures ∙ ap begun_of change) c.leads.ensures.shown in
+    let on : Walked Walker Stager = Done (begun_of walker.change) in
+    let shown = leads-as before_commit written c.leads.result (c.of.ensures ∙ ap begun_of change) Done
+    c.leads.ensures.shown in
     let tells = subst (λ (bytes : Bytes).
     Called before now (token_of walker) (writes IntentStage bytes) written) piece
     (called-of before now _ (token_of walker)
     (writes IntentStage c.intent_piece-piece.result.now) written
     (c.token.ensures ∙ ap (λ (change : Change). change.inputs.keeper.token) change)
     (record { told = c.write-written.ensures.told; noted = c.write-written.ensures.noted })) in
-    takes-step (stages_intent walker) tt (BacksUp walker) HasStagedIntent
-    (begun_of walker.change) (intent-after-write walker reads_it c.requires.left) tt
+    walks-on (stages_intent walker) _ on _ before_commit BacksUp HasStagedIntent walker before now
+    c.leads.result (backs-none walker c.requires.left)
+    (walked-end walker _ (begun_of walker.change) c.requires.left)
+    (takes-step (stages_intent walker) tt (BacksUp walker) (HoldsWalked BacksUp HasStagedIntent) on
+    (intent-after-write walker reads_it c.requires.left) tt
     (λ result stood held. refl) (may-stage-intent walker)
     before_commit before now narrows (token_of walker) written c.leads.result shown
     c.requires.stands tells
     (counts (before_commit Failed) _ _ written c.leads.result c.leads.ensures.failed
-    c.write-written.ensures.faults)
+    c.write-written.ensures.faults))

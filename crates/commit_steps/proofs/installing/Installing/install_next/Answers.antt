@@ -1,16 +1,19 @@
 use Rattle.std.proofs.Common.{◌≡◌, inl, inr, refl, sym, ap, subst, ◌∙◌, slice_get, Some}
 use Rattle.std.proofs.lemmas.Bool.{cases_Bool}
 use Rattle.acct_outside.specs.declared.FolderFault.TheVariants.{Failed}
-use Rattle.suite_rules.specs.Outcomes.{LeadsTo, after_commit, installs, stages}
+use Rattle.suite_rules.specs.Outcomes.{after_commit, installs, stages}
 use Rattle.suite_rules.proofs.StepLemmas.{called-of}
 use Rattle.lock_steps.proofs.OutcomesLemmas.{counts}
 use Rattle.recovery.proofs.CarryLemmas.{may-move, may-stage}
 use Rattle.recovery.proofs.LeadsLemmas.{takes-step}
+use Rattle.lock_steps.specs.States.{Kept}
+use Rattle.commit_steps.specs.declared.walking.Walked.{Walked}
+use Rattle.commit_steps.specs.declared.walking.Walked.TheVariants.{More}
 use Rattle.commit_steps.specs.States.{Change, Walker, changed, has_staged, intended, step_on, tables_left}
-use Rattle.commit_steps.specs.Stands.{Installs}
-use Rattle.commit_steps.specs.Outcomes.{install_call}
-use Rattle.commit_steps.specs.Walks.{WalksOn, token_of}
-use Rattle.commit_steps.proofs.WalksLemmas.{walks-on}
+use Rattle.commit_steps.specs.Stands.{HasCleared, Installs}
+use Rattle.commit_steps.specs.Walks.{HoldsWalked, InstallsOn, token_of}
+use Rattle.commit_steps.proofs.InstallNextLemmas.{installs-some}
+use Rattle.commit_steps.proofs.WalksLemmas.{leads-as, walked-step, walks-on}
 use Rattle.commit_steps.proofs.InstallLemmas.{first-left, install-staged, install-unstaged, installs-after-move, installs-after-write, pieces-are, staged-some}
 use Rattle.commit_steps.proofs.installing.Installing.install_next.Goals as goal
 
@@ -30,15 +33,19 @@ returns g c =
     let is_staged = c.has_staged-is_staged.ensures
     ∙ ap (λ (walker : Walker). has_staged walker) c.self.view_is in
     let whole = sym (pieces-are walker next is_next) ∙ c.requires.whole in
-    let shown = subst (λ (walked : Walker). LeadsTo walked after_commit called c.leads.result)
-    c.step_on.ensures c.leads.ensures.shown in
+    let on : Walked Walker Kept = More (step_on walker) in
+    let shown = leads-as after_commit called c.leads.result
+    (c.step_on-walking.ensures ∙ ap (λ (one : Walker). step_on one) c.self.view_is) More
+    c.leads.ensures.shown in
+    let steps = walked-step walker _ walker.change.inputs.keeper c.requires.left c.requires.whole in
+    let calls = installs-some walker next is_next c.requires.whole in
     elim (cases_Bool (has_staged walker)) as (λ either.
-    WalksOn install_call Installs after_commit walker before now c.leads.result) [
+    InstallsOn walker before now c.leads.result) [
       | inl staged ↦
           let came = c.install-called.ensures.moved (is_staged ∙ staged) in
-          walks-on install_call Installs after_commit walker next is_next (installs next)
-          (install-staged walker next staged) before now c.leads.result
-          (takes-step (installs next) tt (Installs walker) Installs (step_on walker)
+          walks-on (installs next) _ on _ after_commit Installs HasCleared walker before now
+          c.leads.result (calls ∙ install-staged walker next staged) steps
+          (takes-step (installs next) tt (Installs walker) (HoldsWalked Installs HasCleared) on
           (installs-after-move walker next is_next staged) tt (λ result stood held. refl)
           (λ deeds stood held. may-move (intended walker.change) walker.change.inputs.keeper
           (tables_left walker) stood held.carries next (first-left walker next is_next) deeds
@@ -51,9 +58,9 @@ returns g c =
           came.faults))
       | inr unstaged ↦
           let came = c.install-called.ensures.staged (is_staged ∙ unstaged) in
-          walks-on install_call Installs after_commit walker next is_next (stages next)
-          (install-unstaged walker next unstaged) before now c.leads.result
-          (takes-step (stages next) tt (Installs walker) Installs (step_on walker)
+          walks-on (stages next) _ on _ after_commit Installs HasCleared walker before now
+          c.leads.result (calls ∙ install-unstaged walker next unstaged) steps
+          (takes-step (stages next) tt (Installs walker) (HoldsWalked Installs HasCleared) on
           (installs-after-write walker next is_next unstaged) tt (λ result stood held. refl)
           (λ deeds stood held. may-stage (intended walker.change) walker.change.inputs.keeper
           (tables_left walker) stood held.carries next (first-left walker next is_next) deeds)

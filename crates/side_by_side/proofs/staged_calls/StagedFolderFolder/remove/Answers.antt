@@ -3,19 +3,16 @@ use Rattle.side_by_side.proofs.StagedCalls.{call-made, call-wanted, calls-part}
 use Rattle.side_by_side.proofs.staged_calls.StagedFolderFolder.remove.Goals as goal
 
 pub returns-in_err-play_next : goal.returns-in_err-play_next
-returns-in_err-play_next g c = call-wanted c.self.view_is (c.play_next.ensures.played _)
-    c.note.new.self.entries c.args.by.now (removes c.args.name) c.note.ensures
-    c.from_residual.result c.from_residual.ensures
+returns-in_err-play_next g c = call-wanted c.self.view_is (c.play_next.ensures.played _) _ _
+    (removes c.args.name) c.note.ensures _ c.from_residual.ensures
 
 pub invariant_of-self-2 : goal.invariant_of-self-2
-invariant_of-self-2 g c = calls-part c.self.view_is
-    (c.play_next.ensures.played _) c.remove-answer.new.self
-    c.args.by.now (removes c.args.name) c.remove-answer.result c.remove-answer.ensures.told
-    c.requires.acts
+invariant_of-self-2 g c = calls-part c.self.view_is (c.play_next.ensures.played _)
+    c.remove-answer.new.self _ (removes c.args.name) _
+    c.remove-answer.ensures.told c.requires.acts
 
 pub returns : goal.returns
-returns g c = call-made c.self.view_is (c.play_next.ensures.played _) c.remove-answer.new.self
-    c.settle.new.journal.entries
-    c.in_ok-play_next.ensures.whole c.args.by.now (removes c.args.name) c.remove-answer.result
+returns g c = call-made c.self.view_is (c.play_next.ensures.played _) _ _
+    c.in_ok-play_next.ensures.whole _ (removes c.args.name) _
     c.remove-answer.ensures.told c.remove-answer.ensures.faults
     (c.settle.ensures _ _ c.note.ensures) c.remove-answer.ensures.noted

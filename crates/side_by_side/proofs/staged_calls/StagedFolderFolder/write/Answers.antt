@@ -3,20 +3,16 @@ use Rattle.side_by_side.proofs.StagedCalls.{call-made, call-wanted, calls-part}
 use Rattle.side_by_side.proofs.staged_calls.StagedFolderFolder.write.Goals as goal
 
 pub returns-in_err-play_next : goal.returns-in_err-play_next
-returns-in_err-play_next g c = call-wanted c.self.view_is (c.play_next.ensures.played _)
-    c.note.new.self.entries c.args.by.now (writes c.args.name c.args.piece.now) c.note.ensures
-    c.from_residual.result c.from_residual.ensures
+returns-in_err-play_next g c = call-wanted c.self.view_is (c.play_next.ensures.played _) _ _
+    (writes c.args.name c.args.piece.now) c.note.ensures _ c.from_residual.ensures
 
 pub invariant_of-self-2 : goal.invariant_of-self-2
-invariant_of-self-2 g c = calls-part c.self.view_is
-    (c.play_next.ensures.played _) c.write-answer.new.self
-    c.args.by.now (writes c.args.name c.args.piece.now) c.write-answer.result
-    c.write-answer.ensures.told
-    c.requires.acts
+invariant_of-self-2 g c = calls-part c.self.view_is (c.play_next.ensures.played _)
+    c.write-answer.new.self _ (writes c.args.name c.args.piece.now) _
+    c.write-answer.ensures.told c.requires.acts
 
 pub returns : goal.returns
-returns g c = call-made c.self.view_is (c.play_next.ensures.played _) c.write-answer.new.self
-    c.settle.new.journal.entries
-    c.in_ok-play_next.ensures.whole c.args.by.now (writes c.args.name c.args.piece.now)
-    c.write-answer.result c.write-answer.ensures.told c.write-answer.ensures.faults
+returns g c = call-made c.self.view_is (c.play_next.ensures.played _) _ _
+    c.in_ok-play_next.ensures.whole _ (writes c.args.name c.args.piece.now) _
+    c.write-answer.ensures.told c.write-answer.ensures.faults
     (c.settle.ensures _ _ c.note.ensures) c.write-answer.ensures.noted
