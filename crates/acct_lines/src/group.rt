@@ -62,7 +62,12 @@ impl<'a> GroupLine<'a> {
         ensures { IfOk result (λ line. line ≡ line_of
             (self.now.name.now ∷ self.now.password.now ∷ decimal self.now.gid ∷ members.now ∷ [])) }
     {
-        line_with(alloc, self.name, self.password, self.gid, members)
+        let mut line = Bytes::of(alloc, self.name)?;
+        push_field(&mut line, self.password)?;
+        line.push(b":")?;
+        push_decimal(&mut line, u64::from(self.gid))?;
+        push_field(&mut line, members)?;
+        Ok(line)
     }
 }
 
@@ -95,23 +100,4 @@ impl TableRecord for GroupRecord {
     ghost is_line_format = { group-is_format };
 
     ghost names_first = { group-names_first };
-}
-
-// The canonical line of these fields, of which the last is the text of a list.
-fn line_with(
-    alloc: Global,
-    name: &[u8],
-    password: &[u8],
-    gid: u32,
-    members: &[u8],
-) -> Result<Bytes, AllocError>
-    ensures { IfOk result (λ line. line ≡ line_of
-        (name.now ∷ password.now ∷ decimal gid ∷ members.now ∷ [])) }
-{
-    let mut line = Bytes::of(alloc, name)?;
-    push_field(&mut line, password)?;
-    line.push(b":")?;
-    push_decimal(&mut line, u64::from(gid))?;
-    push_field(&mut line, members)?;
-    Ok(line)
 }

@@ -67,7 +67,11 @@ impl<'a> GshadowLine<'a> {
         ensures { IfOk result (λ line. line ≡ line_of
             (self.now.name.now ∷ self.now.password.now ∷ administrators.now ∷ members.now ∷ [])) }
     {
-        line_with(alloc, self.name, self.password, administrators, members)
+        let mut line = Bytes::of(alloc, self.name)?;
+        push_field(&mut line, self.password)?;
+        push_field(&mut line, administrators)?;
+        push_field(&mut line, members)?;
+        Ok(line)
     }
 }
 
@@ -100,22 +104,4 @@ impl TableRecord for GshadowRecord {
     ghost is_line_format = { gshadow-is_format };
 
     ghost names_first = { gshadow-names_first };
-}
-
-// The canonical line of these fields, of which two are the texts of lists.
-fn line_with(
-    alloc: Global,
-    name: &[u8],
-    password: &[u8],
-    administrators: &[u8],
-    members: &[u8],
-) -> Result<Bytes, AllocError>
-    ensures { IfOk result (λ line. line ≡ line_of
-        (name.now ∷ password.now ∷ administrators.now ∷ members.now ∷ [])) }
-{
-    let mut line = Bytes::of(alloc, name)?;
-    push_field(&mut line, password)?;
-    push_field(&mut line, administrators)?;
-    push_field(&mut line, members)?;
-    Ok(line)
 }
