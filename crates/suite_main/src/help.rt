@@ -9,24 +9,19 @@ ghost use Rattle.suite_main.specs.HelpTexts.{helps_with, names_tools};
 
 mod batch;
 mod chage;
+mod checks;
 mod chfn;
-mod chgpasswd;
-mod chpasswd;
 mod chsh;
+mod conversions;
 mod getsubids;
 mod gpasswd;
 mod groupadd;
 mod groupdel;
 mod groupmems;
 mod groupmod;
-mod grpck;
-mod grpconv;
-mod grpunconv;
 mod passwd;
 pub(crate) mod plan;
-mod pwck;
-mod pwconv;
-mod pwunconv;
+mod set_passwords;
 mod useradd;
 mod userdel;
 mod usermod;
@@ -117,15 +112,15 @@ fn texts() -> [&'static str; 22]
         gpasswd::TEXT,
         groupmems::TEXT,
         chage::TEXT,
-        chpasswd::TEXT,
-        chgpasswd::TEXT,
+        set_passwords::CHPASSWD,
+        set_passwords::CHGPASSWD,
         passwd::TEXT,
-        pwconv::TEXT,
-        pwunconv::TEXT,
-        grpconv::TEXT,
-        grpunconv::TEXT,
-        pwck::TEXT,
-        grpck::TEXT,
+        conversions::PWCONV,
+        conversions::PWUNCONV,
+        conversions::GRPCONV,
+        conversions::GRPUNCONV,
+        checks::PWCK,
+        checks::GRPCK,
         getsubids::TEXT,
         batch::TEXT,
     ]
