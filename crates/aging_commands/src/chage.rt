@@ -1,26 +1,23 @@
 // chage LOGIN (chage(1)): changes or lists the aging of a user.
-ghost use Rattle.std.specs.Prelude.{◌≡◌, ◌∷◌, [], codes, is_none, IfOk, option_and_then};
-ghost use Rattle.account_model.specs.Chage.{aging_report as report_of, chage, chage_refusals, chage_script, with_aging};
+ghost use Rattle.std.specs.Prelude.{◌≡◌, ◌∷◌, [], is_none, IfOk, option_and_then};
+ghost use Rattle.account_model.specs.Chage.{chage, chage_refusals, chage_script};
 ghost use Rattle.account_model.specs.Refusals.{refuse_if};
-ghost use Rattle.account_model.specs.Request.{operand, value_of};
+ghost use Rattle.account_model.specs.Request.{value_of};
 ghost use Rattle.account_model.specs.Text.{first_some};
-ghost use Rattle.account_model.specs.Users.{aging_of};
 ghost use Rattle.account_model.specs.Values.{date_value, days_value};
 ghost use Rattle.tool_answers.specs.Refusing.{RefusesBy};
-ghost use Rattle.table_edits.specs.Acting.{ActsBy, IsOutputOf};
+ghost use Rattle.table_edits.specs.Acting.{ActsBy};
 ghost use Rattle.carried_tables.specs.Scripts.{seen_script};
 ghost use Rattle.table_edits.specs.Stopping.{StopsBy};
 ghost use Rattle.line_edits.specs.ShadowChanges.{given_days};
 ghost use Rattle.aging_commands.specs.AgingFields.{SetsAging};
 
-use crate::listing::aging_report;
+pub use crate::listing::chage_output;
 use account_model::Refusal;
-use acct_text::Bytes;
 use command_values::{Asked, Form, ToolFault, read_date, read_days};
 use line_edits::{DaysChange, ShadowAct, ShadowFields};
 use std::alloc::{AllocError, Global};
-use table_edits::{Script, Tables, demand_shadow, hash_alone};
-use tool_answers::Output;
+use table_edits::{Script, Tables, demand_shadow};
 
 /// The script that sets the fields of the user's record in shadow; `-l` changes nothing.
 ///
@@ -34,16 +31,6 @@ pub fn chage(alloc: Global, asked: &Asked, tables: &Tables) -> Result<Script, To
         return Ok(Script::new(alloc));
     }
     Ok(changed_aging(alloc, asked, tables)?)
-}
-
-/// What chage prints: with `-l` the aging of the user, and else nothing.
-pub fn chage_output(alloc: Global, asked: &Asked, tables: &Tables) -> Result<Output, AllocError>
-    ensures { IfOk result (IsOutputOf asked.now.tool (chage asked.now tables.now)) }
-{
-    if !asked.has(b'l') {
-        return Ok(Output::silent(alloc));
-    }
-    Ok(Output::shown(alloc, aging_of(alloc, tables, asked.operand())?))
 }
 
 // Tests the refusals in their order.
@@ -113,18 +100,5 @@ pub(crate) fn days(asked: &Asked, letter: u8) -> DaysChange
     match asked.value(letter) {
         Some(text) => DaysChange::of_value(read_days(text)),
         None => DaysChange::Stays,
-    }
-}
-
-// What is printed of the user; one that shadow lacks has no aging.
-fn aging_of(alloc: Global, tables: &Tables, user: &[u8]) -> Result<Bytes, AllocError>
-    ensures { IfOk result (λ text. text ≡ report_of (aging_of user.now tables.now)) }
-{
-    match tables.shadow_named(alloc, user)? {
-        Some(record) => aging_report(alloc, &record),
-        None => {
-            let record = hash_alone(alloc, Bytes::of(alloc, user)?, Bytes::new(alloc));
-            aging_report(alloc, &record)
-        }
     }
 }

@@ -1,17 +1,45 @@
 // What `chage -l` prints of a user (chage(1), `-l`).
 ghost use Rattle.std.specs.Prelude.{◌≡◌, ◌++◌, IfOk, OnOk};
-ghost use Rattle.account_model.specs.Chage.{aging_report as report_of, shown_date as text_of_date, shown_days as text_of_days, shown_end as text_of_end, shown_expiry as text_of_expiry, shown_last_change as text_of_last_change, shown_line};
+ghost use Rattle.account_model.specs.Chage.{aging_report as report_of, chage, shown_date as text_of_date, shown_days as text_of_days, shown_end as text_of_end, shown_expiry as text_of_expiry, shown_last_change as text_of_last_change, shown_line};
+ghost use Rattle.account_model.specs.Users.{aging_of};
+ghost use Rattle.table_edits.specs.Acting.{IsOutputOf};
 
 use account_model::ShadowRecord;
 use acct_dates::print_day;
 use acct_text::{Bytes, push_decimal};
+use command_values::Asked;
 use std::alloc::{AllocError, Global};
+use table_edits::{Tables, hash_alone};
+use tool_answers::Output;
 
 // A password of as many days never expires.
 const ENDLESS_DAYS: u32 = 10_000;
 
-/// The seven lines on the aging of a user with this record of shadow.
-pub(crate) fn aging_report(alloc: Global, user: &ShadowRecord) -> Result<Bytes, AllocError>
+/// What chage prints: with `-l` the aging of the user, and else nothing.
+pub fn chage_output(alloc: Global, asked: &Asked, tables: &Tables) -> Result<Output, AllocError>
+    ensures { IfOk result (IsOutputOf asked.now.tool (chage asked.now tables.now)) }
+{
+    if !asked.has(b'l') {
+        return Ok(Output::silent(alloc));
+    }
+    Ok(Output::shown(alloc, aging_of(alloc, tables, asked.operand())?))
+}
+
+// What is printed of the user; one that shadow lacks has no aging.
+fn aging_of(alloc: Global, tables: &Tables, user: &[u8]) -> Result<Bytes, AllocError>
+    ensures { IfOk result (λ text. text ≡ report_of (aging_of user.now tables.now)) }
+{
+    match tables.shadow_named(alloc, user)? {
+        Some(record) => aging_report(alloc, &record),
+        None => {
+            let record = hash_alone(alloc, Bytes::of(alloc, user)?, Bytes::new(alloc));
+            aging_report(alloc, &record)
+        }
+    }
+}
+
+// The seven lines on the aging of a user with this record of shadow.
+fn aging_report(alloc: Global, user: &ShadowRecord) -> Result<Bytes, AllocError>
     ensures { IfOk result (λ lines. lines ≡ report_of user.now) }
 {
     let mut lines = Bytes::new(alloc);

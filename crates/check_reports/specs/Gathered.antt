@@ -1,8 +1,8 @@
 -- What pwconv and grpconv make of the table of hashes (pwconv(8)).
-use Rattle.std.specs.Prelude.{◌≡◌, ◌||◌, ℕ, List, [], ◌∷◌, bytes_eq, is_some, length, map, None, Some, if◌then◌else◌}
+use Rattle.std.specs.Prelude.{◌≡◌, ◌||◌, ℕ, List, [], ◌∷◌, ◌++◌, bytes_eq, is_some, length, map, None, Some, if◌then◌else◌}
 use Rattle.acct_text.specs.Lines.{lines_of}
 use Rattle.account_model.specs.Conversion.{Accounts, gathered}
-use Rattle.account_model.specs.Edits.{AddMissing, Become, Edit}
+use Rattle.account_model.specs.Edits.{AddMissing, Become, Edit, edited_by}
 use Rattle.account_model.specs.Format.{Format, has_named, records_of}
 use Rattle.account_model.specs.Hashes.{elsewhere}
 use Rattle.acct_tables.specs.NameIndex.{told}
@@ -45,3 +45,9 @@ pub record IsGrown {M H : Type 0} (main : Format M) (format : Format H) (before 
   pub names : (name : List ℕ) → has_named format name (records_of format (lines_of grown.text))
       ≡ (is_some (told grown.there name) || has_named main name before)
   pub counted : grown.place ≡ length before
+
+-- one more main record is looked at, or none: what is made of it is added where its name is missing
+pub record Grows {M H : Type 0} (main : Format M) (format : Format H) (make : M → H)
+    (before found : List M) (old new : Grown) : Type 0 where
+  pub lines : lines_of new.text ≡ edited_by format (made_edits make found) (lines_of old.text)
+  pub grown : IsGrown main format (before ++ found) new

@@ -7,7 +7,7 @@ ghost use Rattle.account_model.specs.Format.{has_named, records_of};
 ghost use Rattle.account_model.specs.RecordEdits.{IsWrittenEdit};
 ghost use Rattle.account_model.specs.Tables.{table_records};
 ghost use Rattle.acct_tables.specs.SeenLines.{missing_end};
-ghost use Rattle.check_reports.specs.Gathered.{IsGrown, IsMaking, made_edits};
+ghost use Rattle.check_reports.specs.Gathered.{Grows, IsGrown, IsMaking, made_edits};
 ghost use Rattle.check_reports.specs.Sorted.{IsOrderOf};
 
 use crate::gathering::{FieldTaking, UserTaking};
@@ -142,17 +142,11 @@ fn grow<'a, M: TableRecord, P: AccountLine<'a, M>, H: TableRecord, T: MadeLine<'
     requires room { grown.old.place + 1 < 2 ^ 64 }
     requires written { AllByRecursion (IsWrittenEdit H.format)
         (made_edits (T.make making.now) (option_to_list (M.format.read line.now))) }
-    ensures lines { OnOk result ((before rest : List M)
+    ensures { OnOk result ((before rest : List M)
         → IsOrderOf M.format (before ++ cons_option (M.format.read line.now) rest) order.now
         → IsGrown M.format H.format before grown.old
-        → lines_of grown.new.text ≡ edited_by H.format
-        (made_edits (T.make making.now) (option_to_list (M.format.read line.now)))
-        (lines_of grown.old.text)) }
-    ensures grown { OnOk result ((before rest : List M)
-        → IsOrderOf M.format (before ++ cons_option (M.format.read line.now) rest) order.now
-        → IsGrown M.format H.format before grown.old
-        → IsGrown M.format H.format
-        (before ++ option_to_list (M.format.read line.now)) grown.new) }
+        → Grows M.format H.format (T.make making.now) before
+        (option_to_list (M.format.read line.now)) grown.old grown.new) }
 {
     let Some(main) = P::account_in(line) else {
         return Ok(());

@@ -35,7 +35,6 @@
 mod clock;
 mod disk;
 mod files;
-mod names;
 mod player;
 mod session;
 mod streams;

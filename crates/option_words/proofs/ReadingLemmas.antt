@@ -1,6 +1,6 @@
 -- Claim: each step of a reading keeps its outcome. An option that is read before others is kept
 -- (`request_by-option`), and so is an operand (`request_by-operand`).
-use Rattle.std.proofs.Common.{◌≡◌, ◌≢◌, ◌⊎◌, ℕ, suc, ◌+◌, ◌-◌, ◌==◌, false, List, [], ◌∷◌, ◌++◌, length, Option, Some, None, Result, Ok, Err, refl, ap, sym, ◌∙◌, arith, inl, inr}
+use Rattle.std.proofs.Common.{◌≡◌, ◌≢◌, ◌⊎◌, ℕ, suc, ◌+◌, ◌-◌, ◌==◌, Bool, false, List, [], ◌∷◌, ◌++◌, length, Option, Some, None, Result, Ok, Err, refl, ap, sym, ◌∙◌, arith, inl, inr}
 use Rattle.std.specs.Option.{option_or}
 use Rattle.std.specs.Prelude.{if◌then◌else◌, filter_map, filter, OnOk, IfOk, IfErr, IsErrAnd}
 use Rattle.std.specs.declared.alloc.Global.{Global}
@@ -152,6 +152,21 @@ pub letters_reading-cons :
 letters_reading-cons table letters letter behind form same found =
     ap (letters_reading table) same
     ∙ ap (λ form. letter_reading letter form behind (letters_reading table behind)) (sym found)
+
+-- and by whether that takes a value
+pub letters_reading-form :
+    (table : List OptionForm) (letters : Word) (letter : ℕ) (behind : Word)
+    (form : OptionForm) (takes : Bool)
+    → letters ≡ letter ∷ behind
+    → Some form ≡ form_of_letter table letter
+    → form.takes_value ≡ takes
+    → letters_reading table letters
+    ≡ (if takes then value_behind letter behind
+    else flag_before letter (letters_reading table behind))
+letters_reading-form table letters letter behind form takes same found is =
+    let rest = letters_reading table behind in
+    letters_reading-cons table letters letter behind (Some form) same found
+    ∙ ap (λ takes. if takes then value_behind letter behind else flag_before letter rest) is
 
 -- ---- Long names
 

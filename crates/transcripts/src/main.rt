@@ -34,7 +34,7 @@
 #![tactic(auto)]
 
 mod beside;
-mod names;
+mod counts;
 mod player;
 mod scene;
 mod shown;

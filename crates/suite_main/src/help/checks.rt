@@ -1,7 +1,7 @@
 // The texts of the tools that check or sort two tables (pwck(8), grpck(8)).
 
-// The text of a tool that does so as `$checks` tells, with the option `$quiet` or none more, and sorts
-// by the ID `$key`.
+// The text of a tool that does so as `$checks` tells, with the option `$quiet` or none more, and
+// sorts by the ID `$key`.
 macro_rules! check {
     ($tool:literal, $checks:literal, $quiet:literal, $key:literal) => {
         concat!(

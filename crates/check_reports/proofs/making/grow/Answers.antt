@@ -9,21 +9,8 @@ use Rattle.check_reports.specs.Sorted.{IsOrderOf}
 use Rattle.check_reports.proofs.GrownLemmas.{grown-has, grown-known, grown-more, made-written, more-grown}
 use Rattle.check_reports.proofs.making.grow.Goals as goal
 
-pub returns-then-is_known-clause-lines : goal.returns-then-is_known-clause-lines
-returns-then-is_known-clause-lines g c = λ before rest is grown.
-    let main = g.M.TableRecord.format in
-    let format = g.H.TableRecord.format in
-    let m = g.P.AccountLine.shown c.in-Some.main in
-    let reads = c.in-Some.ensures {u = tt} in
-    let of_record = subst (λ found. IsOrderOf main (before ++ cons_option found rest) c.args.order.now)
-    (sym reads) is in
-    grown-has main format (g.T.Making.make c.args.making.now)
-    (g.met.T.Making.is_making.named c.args.making.now) (main.read c.args.line.now) m
-    (lines_of c.args.grown.now.text) reads
-    (sym (c.is_known-is_known.ensures before rest of_record grown) ∙ c.if-is_known.true)
-
-pub returns-then-is_known-clause-grown : goal.returns-then-is_known-clause-grown
-returns-then-is_known-clause-grown g c = λ before rest is grown.
+pub returns-then-is_known : goal.returns-then-is_known
+returns-then-is_known g c = λ before rest is grown.
     let main = g.M.TableRecord.format in
     let format = g.H.TableRecord.format in
     let m = g.P.AccountLine.shown c.in-Some.main in
@@ -32,54 +19,41 @@ returns-then-is_known-clause-grown g c = λ before rest is grown.
     let reads = c.in-Some.ensures {u = tt} in
     let of_record = subst (λ found. IsOrderOf main (before ++ cons_option found rest) c.args.order.now)
     (sym reads) is in
-    subst (λ found. IsGrown main format (before ++ option_to_list found) new) reads
-    (grown-known main format before m old new
-    (sym (grown.names (main.name m))
-    ∙ sym (c.is_known-is_known.ensures before rest of_record grown) ∙ c.if-is_known.true)
-    grown refl refl refl)
+    let known = sym (c.is_known-is_known.ensures before rest of_record grown) ∙ c.if-is_known.true
+    in
+    record {
+      lines = grown-has main format (g.T.Making.make c.args.making.now)
+          (g.met.T.Making.is_making.named c.args.making.now) (main.read c.args.line.now) m
+          (lines_of old.text) reads known;
+      grown = subst (λ found. IsGrown main format (before ++ option_to_list found) new) reads
+          (grown-known main format before m old new (sym (grown.names (main.name m)) ∙ known) grown
+          refl refl refl);
+    }
 
-pub returns-clause-lines : goal.returns-clause-lines
-returns-clause-lines g c =
+pub returns : goal.returns
+returns g c =
     let main = g.M.TableRecord.format in
     let format = g.H.TableRecord.format in
     let make = g.T.Making.make c.args.making.now in
+    let named = g.met.T.Making.is_making.named c.args.making.now in
+    let no_blank = g.met.T.Making.is_making.no_blank in
+    let same = g.met.H.TableRecord.is_line_format.same in
     let m = g.P.AccountLine.shown c.in-Some.main in
     let old = c.args.grown.now in
-    let new : Grown = record {
-      text = c.append_made.new.text;
-      there = old.there;
-      place = old.place + 1;
-    } in
+    let text = c.append_made.new.text in
+    let new : Grown = record { text = text; there = old.there; place = old.place + 1 } in
     let reads = c.in-Some.ensures {u = tt} in
+    let written = made-written format make (main.read c.args.line.now) m reads c.requires.written in
     on_ok_weaker c.append_made.result
     (λ appended before rest is grown.
     let of_record = subst (λ found. IsOrderOf main (before ++ cons_option found rest) c.args.order.now)
     (sym reads) is in
-    grown-more main format make (g.met.T.Making.is_making.named c.args.making.now)
-    g.met.T.Making.is_making.no_blank g.met.H.TableRecord.is_line_format.same m
-    (made-written format make (main.read c.args.line.now) m reads c.requires.written) old new
-    appended (main.read c.args.line.now) reads
-    (sym (c.is_known-is_known.ensures before rest of_record grown) ∙ c.if-is_known.false))
-    c.append_made.ensures
-
-pub returns-clause-grown : goal.returns-clause-grown
-returns-clause-grown g c =
-    let main = g.M.TableRecord.format in
-    let format = g.H.TableRecord.format in
-    let make = g.T.Making.make c.args.making.now in
-    let m = g.P.AccountLine.shown c.in-Some.main in
-    let old = c.args.grown.now in
-    let new : Grown = record {
-      text = c.append_made.new.text;
-      there = old.there;
-      place = old.place + 1;
-    } in
-    let reads = c.in-Some.ensures {u = tt} in
-    on_ok_weaker c.append_made.result
-    (λ appended before rest is grown.
-    subst (λ found. IsGrown main format (before ++ option_to_list found) new) reads
-    (more-grown main format make (g.met.T.Making.is_making.named c.args.making.now)
-    g.met.T.Making.is_making.no_blank g.met.H.TableRecord.is_line_format.same m
-    (made-written format make (main.read c.args.line.now) m reads c.requires.written) old new
-    appended before grown refl refl))
+    record {
+      lines = grown-more main format make named no_blank same m written old new appended
+          (main.read c.args.line.now) reads
+          (sym (c.is_known-is_known.ensures before rest of_record grown) ∙ c.if-is_known.false);
+      grown = subst (λ found. IsGrown main format (before ++ option_to_list found) new) reads
+          (more-grown main format make named no_blank same m written old new appended before grown
+          refl refl);
+    })
     c.append_made.ensures

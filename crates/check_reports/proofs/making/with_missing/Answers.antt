@@ -61,16 +61,17 @@ lines-preserved g c =
     let is = subst (λ records. IsOrderOf main records c.args.order.now)
     (sym (records-in main _ c.args.main.now refl)
     ∙ records-around main _ _ c.take.new.self line taken next) c.requires.order in
+    let grows = c.in_ok-grow.ensures {u = tt} _ _ is c.lines.invariant.grown in
     record {
       taken = with_next _ _ line c.take.new.self taken next;
       grown = subst (λ records. IsGrown main format records c.grow.new.grown)
           (sym (records-more main taken.done line))
-          (c.in_ok-grow.ensures.grown _ _ is c.lines.invariant.grown);
+          grows.grown;
       written = (written-walk main format make (main.read c.in-Some.line.text.now) _
           (subst (λ lines. AllByRecursion (IsWrittenEdit format)
           (made_edits make (records_of main lines))) next c.lines.invariant.written)).1;
       so_far = grown-walk main format make (main.read c.in-Some.line.text.now) _ _ _
-          (c.in_ok-grow.ensures.lines _ _ is c.lines.invariant.grown)
+          grows.lines
           ∙ ap (λ lines. edited_by format (made_edits make (records_of main lines))
           (lines_of c.lines.grown.text)) (sym next)
           ∙ c.lines.invariant.so_far;

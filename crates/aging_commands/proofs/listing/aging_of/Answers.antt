@@ -3,7 +3,7 @@ use Rattle.std.specs.Prelude.{Option, IfOk, unwrap_or}
 use Rattle.account_model.specs.declared.records.ShadowRecord.{ShadowRecord}
 use Rattle.account_model.specs.Chage.{aging_report}
 use Rattle.account_model.specs.Records.{hash_alone}
-use Rattle.aging_commands.proofs.chage.aging_of.Goals as goal
+use Rattle.aging_commands.proofs.listing.aging_of.Goals as goal
 
 pub returns-in-Some : goal.returns-in-Some
 returns-in-Some c = subst

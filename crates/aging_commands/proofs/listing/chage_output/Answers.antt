@@ -4,7 +4,7 @@ use Rattle.account_model.specs.Chage.{aging_report, chage_refusals, chage_script
 use Rattle.account_model.specs.Request.{has_option, operand}
 use Rattle.account_model.specs.Users.{aging_of}
 use Rattle.aging_commands.proofs.ChageLemmas.{listed-output}
-use Rattle.aging_commands.proofs.chage.chage_output.Goals as goal
+use Rattle.aging_commands.proofs.listing.chage_output.Goals as goal
 
 pub returns : goal.returns
 returns c =
