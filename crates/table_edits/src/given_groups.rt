@@ -1,6 +1,6 @@
 // The groups that words name, and refusals of words that name none (useradd(8), usermod(8), `-g` and
 // `-G`).
-ghost use Rattle.std.specs.Prelude.{◌≡◌, ◌++◌, [], find, map, option_map, IfOk, OnOk};
+ghost use Rattle.std.specs.Prelude.{◌≡◌, ◌++◌, [], false, None, find, map, option_map, IfOk, OnOk};
 ghost use Rattle.std.specs.List.{cons_option};
 ghost use Rattle.std.specs.Option.{option_copied};
 ghost use Rattle.account_model.specs.GivenGroups.{find_group as named_by_word, given_group, given_groups, given_group_words as words_of_groups, is_unknown_group, unknown_group, unknown_groups};
@@ -22,7 +22,7 @@ pub fn check_given_group(alloc: Global, asked: &Asked, tables: &Tables) -> Resul
     let Some(word) = asked.value(b'g') else {
         return Ok(());
     };
-    if group_name(alloc, tables, word)?.is_some() {
+    if !is_unknown(alloc, tables, word)? {
         return Ok(());
     }
     Err(no_group(alloc, word)?)
@@ -49,11 +49,24 @@ fn first_unknown<'a>(
         option_copied found ≡ find (is_unknown_group tables.now) words.now) }
 {
     for word in words {
-        if group_name(alloc, tables, word.as_slice())?.is_none() {
+        if is_unknown(alloc, tables, word.as_slice())? {
             return Ok(Some(word));
         }
     }
     Ok(None)
+}
+
+// Whether a word names no group. Of a GID that asks the used ones, where these are known.
+fn is_unknown(alloc: Global, tables: &Tables, word: &[u8]) -> Result<bool, AllocError>
+    ensures { IfOk result (λ is. is ≡ is_unknown_group tables.now word.now) }
+{
+    if !is_digits(word) {
+        return Ok(!tables.has_group(word));
+    }
+    match read_id(word) {
+        Some(gid) => Ok(!tables.is_gid_used(alloc, gid)?),
+        None => Ok(true),
+    }
 }
 
 /// The group of `-g`; none where the option isn't given or names none.
@@ -88,17 +101,6 @@ fn find_group(
     }
 }
 
-// Its name. Where the word is that, the record isn't read.
-fn group_name(alloc: Global, tables: &Tables, word: &[u8]) -> Result<Option<Bytes>, AllocError>
-    ensures { IfOk result (λ name. name ≡ option_map (λ group. group.name)
-        (named_by_word word.now (group_records tables.now))) }
-{
-    if !is_digits(word) && tables.has_group(word) {
-        return Ok(Some(Bytes::of(alloc, word)?));
-    }
-    Ok(find_group(alloc, tables, word)?.map(|group| group.name))
-}
-
 // The words of `-G`, each once.
 fn group_words(alloc: Global, asked: &Asked) -> Result<Names, AllocError>
     ensures { IfOk result (λ words. words ≡ words_of_groups asked.now) }
@@ -106,8 +108,9 @@ fn group_words(alloc: Global, asked: &Asked) -> Result<Names, AllocError>
     list_value(alloc, asked.value_or(b'G', b""))
 }
 
-/// The names of the groups of `-G`, in the order in which they were given.
+/// The names of the groups of `-G`, all of which are there, in the order in which they were given.
 pub fn group_names(alloc: Global, asked: &Asked, tables: &Tables) -> Result<Names, AllocError>
+    requires { unknown_groups asked.now tables.now ≡ None }
     ensures { IfOk result (λ names.
         names ≡ map (λ group. group.name) (given_groups asked.now tables.now)) }
 {
@@ -119,18 +122,23 @@ pub fn group_names(alloc: Global, asked: &Asked, tables: &Tables) -> Result<Name
     Ok(names)
 }
 
-// Adds the name of the first group that the word names, where it names one.
+// Adds the name of the group that the word names. Where that isn't all digits it is the word, and group(5)
+// isn't searched again.
 fn push_named(
     alloc: Global,
     names: &mut Names,
     tables: &Tables,
     word: &[u8],
 ) -> Result<(), AllocError>
+    requires { is_unknown_group tables.now word.now ≡ false }
     ensures { OnOk result (names.new ≡ names.old ++ cons_option
         (option_map (λ group. group.name) (named_by_word word.now (group_records tables.now))) []) }
 {
-    if let Some(name) = group_name(alloc, tables, word)? {
-        names.push(name.as_slice())?;
+    if !is_digits(word) {
+        return names.push(word);
+    }
+    if let Some(group) = find_group(alloc, tables, word)? {
+        names.push(group.name.as_slice())?;
     }
     Ok(())
 }

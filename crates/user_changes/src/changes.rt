@@ -1,5 +1,6 @@
 // usermod LOGIN (usermod(8)): changes a user.
-ghost use Rattle.std.specs.Prelude.{◌≡◌, ◌∷◌, [], Some, IfOk, codes};
+ghost use Rattle.std.specs.Prelude.{◌≡◌, ◌∷◌, [], None, Some, IfOk, codes};
+ghost use Rattle.account_model.specs.GivenGroups.{unknown_groups};
 ghost use Rattle.account_model.specs.Refusals.{bad_values};
 ghost use Rattle.account_model.specs.Text.{first_some};
 ghost use Rattle.account_model.specs.Usermod.{new_name, usermod, usermod_checks, usermod_script};
@@ -75,6 +76,7 @@ fn changed_user(
 ) -> Result<Script, AllocError>
     requires named { IsNameField (new_name asked.now) }
     requires uid { Some old_uid ≡ uid_of (operand asked.now) tables.now }
+    requires groups { unknown_groups asked.now tables.now ≡ None }
     ensures { IfOk result (λ script.
         seen_script script ≡ usermod_script asked.now tables.now day) }
 {

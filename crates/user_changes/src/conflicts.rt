@@ -1,5 +1,6 @@
 // What usermod(8) refuses by the tables: what is missing, and what is taken.
-ghost use Rattle.std.specs.Prelude.{◌≡◌, None, Some, IfOk, codes};
+ghost use Rattle.std.specs.Prelude.{◌≡◌, None, Some, IfOk, OnOk, codes};
+ghost use Rattle.account_model.specs.GivenGroups.{unknown_groups};
 ghost use Rattle.account_model.specs.Names.{is_valid_name};
 ghost use Rattle.account_model.specs.Refusals.{bad_value, missing_user};
 ghost use Rattle.account_model.specs.Text.{first_some};
@@ -28,6 +29,7 @@ pub(crate) fn check_conflicts(
     requires { bad_value (codes "l") is_valid_name asked.now ≡ None }
     ensures refused { StopsBy (first_some (usermod_conflicts asked.now tables.now)) result }
     ensures uid { IfOk result (λ uid. Some uid ≡ uid_of (operand asked.now) tables.now) }
+    ensures groups { OnOk result (unknown_groups asked.now tables.now ≡ None) }
 {
     let old_uid = old_uid(alloc, asked, tables)?;
     check_new_name(alloc, asked, tables)?;
@@ -124,6 +126,7 @@ fn check_shadow(asked: &Asked, tables: &Tables) -> Result<(), ToolFault>
 
 // Refuses a user with a comma in the name, whom `-G` would add to a list: `BadName`.
 fn check_listed(alloc: Global, asked: &Asked, tables: &Tables) -> Result<(), ToolFault>
+    requires { unknown_groups asked.now tables.now ≡ None }
     ensures { StopsBy (unlistable_name asked.now tables.now) result }
 {
     let user = asked.operand();

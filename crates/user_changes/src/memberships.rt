@@ -1,6 +1,7 @@
 // The groups that a user joins and leaves, and the name in them (usermod(8), `-G`, `-a` and `-l`).
-ghost use Rattle.std.specs.Prelude.{◌≡◌, [], ◌∷◌, IfOk, OnOk};
+ghost use Rattle.std.specs.Prelude.{◌≡◌, [], ◌∷◌, None, IfOk, OnOk};
 ghost use Rattle.account_model.specs.Edits.{each, edit_if};
+ghost use Rattle.account_model.specs.GivenGroups.{unknown_groups};
 ghost use Rattle.account_model.specs.Tables.{no_edits};
 ghost use Rattle.account_model.specs.Usermod.{changed_group, changed_gshadow, sets_lists};
 ghost use Rattle.carried_tables.specs.Scripts.{HasAlso};
@@ -22,6 +23,7 @@ pub(crate) fn write_memberships(
     asked: &Asked,
     tables: &Tables,
 ) -> Result<(), AllocError>
+    requires { unknown_groups asked.now tables.now ≡ None }
     ensures { OnOk result (HasAlso
         (record no_edits {
           group = edit_if (sets_lists asked.now) (each (changed_group asked.now tables.now));

@@ -1,5 +1,6 @@
 // useradd LOGIN (useradd(8)): makes a user.
-ghost use Rattle.std.specs.Prelude.{◌&&◌, List, IfOk};
+ghost use Rattle.std.specs.Prelude.{◌≡◌, ◌&&◌, List, None, IfOk, OnOk};
+ghost use Rattle.account_model.specs.GivenGroups.{unknown_groups};
 ghost use Rattle.account_model.specs.NewAccount.{settings_for};
 ghost use Rattle.account_model.specs.NewRanges.{no_gap};
 ghost use Rattle.account_model.specs.Refusals.{refuse_if};
@@ -75,6 +76,7 @@ fn check_conflicts(
 ) -> Result<NewIds, ToolFault>
     ensures refused { StopsBy (first_some (useradd_conflicts asked.now tables.now plan)) result }
     ensures ids { IfOk result (ArePlannedIds plan) }
+    ensures groups { OnOk result (unknown_groups asked.now tables.now ≡ None) }
 {
     check_login(alloc, asked, tables)?;
     check_given_group(alloc, asked, tables)?;

@@ -1,6 +1,7 @@
 // The edits that make a user (useradd(8)).
-ghost use Rattle.std.specs.Prelude.{◌≡◌, ◌++◌, ◌∷◌, [], map, IfOk, OnOk};
+ghost use Rattle.std.specs.Prelude.{◌≡◌, ◌++◌, ◌∷◌, [], None, map, IfOk, OnOk};
 ghost use Rattle.account_model.specs.Edits.Edit.{Add, Put};
+ghost use Rattle.account_model.specs.GivenGroups.{unknown_groups};
 ghost use Rattle.account_model.specs.Members.{add_to_group};
 ghost use Rattle.account_model.specs.NewRanges.{allotted};
 ghost use Rattle.account_model.specs.Tables.{in_order, no_edits};
@@ -28,6 +29,7 @@ pub(crate) fn user_script(
     ids: NewIds,
     shadow: ShadowRecord,
 ) -> Result<Script, AllocError>
+    requires { unknown_groups asked.now tables.now ≡ None }
     ensures { IfOk result (λ script. seen_script script
         ≡ add_user asked.now tables.now plan shadow ids.uid ids.gid) }
 {
@@ -86,6 +88,7 @@ fn join_groups(
     asked: &Asked,
     tables: &Tables,
 ) -> Result<(), AllocError>
+    requires { unknown_groups asked.now tables.now ≡ None }
     ensures { OnOk result (HasAlso (joined_groups asked.now tables.now) script.old script.new) }
 {
     let groups = group_names(alloc, asked, tables)?;
