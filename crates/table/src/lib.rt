@@ -38,4 +38,4 @@ mod texts_there;
 
 pub use keys::KeyedRecord;
 pub use search::{OfGid, RecordTest};
-pub use table::{Table, edited_text};
+pub use table::{Checked, Table, edited_text};
