@@ -217,7 +217,9 @@ impl<'a> CarriedTables<'a> {
             passwd: self.passwd.edit(alloc, &script.passwd, &places.passwd)?,
             shadow: self.shadow.edit_at(alloc, &script.shadow, &places.shadow)?,
             group: self.group.edit(alloc, &script.group, &places.group)?,
-            gshadow: self.gshadow.edit_at(alloc, &script.gshadow, &places.gshadow)?,
+            gshadow: self
+                .gshadow
+                .edit_at(alloc, &script.gshadow, &places.gshadow)?,
             subuid: self.subuid.edit(alloc, &script.subuid)?,
             subgid: self.subgid.edit(alloc, &script.subgid)?,
         })

@@ -64,8 +64,7 @@ edited-alone format becomes edits edit file before after now blank only written 
     let all = subst (AllByRecursion (IsWrittenEdit format)) only written in
     let of_new : AreOfFile after = subst AreOfFile (sym made)
     (edit-of_file format blank edit all.0 before of_file) in
-    let same : now ≡ after = renewed of_new in
-    (
+    let same : now ≡ after = renewed of_new in (
       subst AreOfFile (sym same) of_new,
       ap (λ lines. Some (file_bytes lines)) (same ∙ made)
           ∙ sym (ap (λ lines. Some (file_bytes (edited format lines edit))) of_file)

@@ -2,10 +2,12 @@
 // gshadow(5), subuid(5), subgid(5)). An edit isn't asked about that does the same as one of the last two,
 // nor one that needs a key which no record in front of that place has.
 ghost use Rattle.std.specs.Prelude.{◌≡◌, ◌∷◌, ◌≤◌, ℕ, List, [], true, None, Some, IfOk, IfSome, MatchOption};
+ghost use Rattle.account_model.specs.Format.{is_named};
 ghost use Rattle.account_model.specs.RecordEdits.{IsWrittenEdit};
 ghost use Rattle.line_edits.specs.SeenEdits.{seen_edit, seen_edits};
 ghost use Rattle.table.specs.FirstMet.{AreAsked, IsSettled, NeedsKey, StandsNoEarlier};
-ghost use Rattle.table.specs.Met.{AreEditedAt, IsEditedAt, earlier, first_in, has_met};
+ghost use Rattle.table.specs.Met.{AreEditedAt, IsEditedAt, MeetsAt, TouchesNamed, earlier, first_in, has_met};
+ghost use Rattle.table.specs.TableCells.{Reaches};
 ghost use Rattle.table.specs.TableEdits.{AreWritten};
 
 use crate::keyed_cells::KeyedCells;
@@ -86,6 +88,49 @@ impl<'a, R: KeyedRecord + Drop> KeyedCells<'a, R> {
             last: met.last.with(edit),
             places,
         })
+    }
+
+    // The places where records may stand that the edit touches, all of the name where it is one alone, from
+    // the first to the last.
+    fn met_places(
+        &self,
+        alloc: Global,
+        edit: &Edit<R, R::Change>,
+        name: Option<&[u8]>,
+    ) -> Result<Vec<usize>, AllocError>
+        requires { IfSome name (λ name.
+            TouchesNamed R.format (seen_edit R.becomes edit.now) name.now) }
+        ensures met { IfOk result (λ places.
+            MeetsAt R.format (seen_edit R.becomes edit.now) self.now places.items) }
+        ensures named { IfOk result (λ places. IfSome name.entry (λ name.
+            Reaches R.format (is_named R.format name.now) self.now places.items)) }
+        ensures edited { IfOk result (λ places.
+            IsEditedAt R.format (seen_edit R.becomes edit.now) self.now places.items) }
+    {
+        match name {
+            Some(name) => self.places_of(alloc, name),
+            None => self.other_places(alloc, edit),
+        }
+    }
+
+    // The same of an edit that may touch records of several names, or none.
+    fn other_places(
+        &self,
+        alloc: Global,
+        edit: &Edit<R, R::Change>,
+    ) -> Result<Vec<usize>, AllocError>
+        ensures met { IfOk result (λ places.
+            MeetsAt R.format (seen_edit R.becomes edit.now) self.now places.items) }
+        ensures edited { IfOk result (λ places.
+            IsEditedAt R.format (seen_edit R.becomes edit.now) self.now places.items) }
+    {
+        let _ = &self.file;
+        match edit {
+            Edit::Become(change) => self.touched(alloc, change),
+            Edit::Put(item) => self.places_of(alloc, item.name()),
+            Edit::Add(_) => Ok(Vec::new(alloc)),
+            Edit::AddMissing(_) => Ok(Vec::new(alloc)),
+        }
     }
 
     // The key that the edit needs, where no record in front of the place has it.

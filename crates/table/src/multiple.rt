@@ -10,7 +10,7 @@ ghost use Rattle.account_model.specs.RecordEdits.{IsWrittenEdit};
 ghost use Rattle.line_edits.specs.SeenEdits.{seen_edit, seen_edits};
 ghost use Rattle.line_edits.specs.Touching.{is_met};
 ghost use Rattle.acct_tables.specs.Cells.{cell_at, cells_from, lines_now};
-ghost use Rattle.table.specs.Met.{AreEditedAt, IsEditedAt, MeetsAt, TouchesNamed, first_in, has_met, meets};
+ghost use Rattle.table.specs.Met.{AreEditedAt, MeetsAt, TouchesNamed, first_in, has_met, meets};
 ghost use Rattle.table.specs.TableCells.{Reaches, cells_there, records_read};
 ghost use Rattle.table.specs.TableEdits.{AreWritten, multiple_by};
 
@@ -63,49 +63,6 @@ impl<'a, R: KeyedRecord + Drop> KeyedCells<'a, R> {
         match self.file.kept_text() {
             Some(_) => places,
             None => Vec::new(alloc),
-        }
-    }
-
-    /// The places where records may stand that the edit touches, all of the name where it is one alone, from
-    /// the first to the last.
-    pub(crate) fn met_places(
-        &self,
-        alloc: Global,
-        edit: &Edit<R, R::Change>,
-        name: Option<&[u8]>,
-    ) -> Result<Vec<usize>, AllocError>
-        requires { IfSome name (λ name.
-            TouchesNamed R.format (seen_edit R.becomes edit.now) name.now) }
-        ensures met { IfOk result (λ places.
-            MeetsAt R.format (seen_edit R.becomes edit.now) self.now places.items) }
-        ensures named { IfOk result (λ places. IfSome name.entry (λ name.
-            Reaches R.format (is_named R.format name.now) self.now places.items)) }
-        ensures edited { IfOk result (λ places.
-            IsEditedAt R.format (seen_edit R.becomes edit.now) self.now places.items) }
-    {
-        match name {
-            Some(name) => self.places_of(alloc, name),
-            None => self.other_places(alloc, edit),
-        }
-    }
-
-    // The same of an edit that may touch records of several names, or none.
-    fn other_places(
-        &self,
-        alloc: Global,
-        edit: &Edit<R, R::Change>,
-    ) -> Result<Vec<usize>, AllocError>
-        ensures met { IfOk result (λ places.
-            MeetsAt R.format (seen_edit R.becomes edit.now) self.now places.items) }
-        ensures edited { IfOk result (λ places.
-            IsEditedAt R.format (seen_edit R.becomes edit.now) self.now places.items) }
-    {
-        let _ = &self.file;
-        match edit {
-            Edit::Become(change) => self.touched(alloc, change),
-            Edit::Put(item) => self.places_of(alloc, item.name()),
-            Edit::Add(_) => Ok(Vec::new(alloc)),
-            Edit::AddMissing(_) => Ok(Vec::new(alloc)),
         }
     }
 
