@@ -3,8 +3,11 @@
 use Rattle.std.specs.Prelude.{◌≡◌, ⊤, Some, None, Result, Ok, Err}
 use Rattle.acct_text.specs.declared.files.Files.{Files}
 use Rattle.account_model.specs.Action.{multiple_entries}
+use Rattle.account_model.specs.Records.{group_format, gshadow_format, passwd_format, shadow_format}
 use Rattle.account_model.specs.Tables as model
+use Rattle.account_model.specs.declared.refusal.Refusal.{Refusal}
 use Rattle.carried_tables.specs.Changes.{UneditedStay}
+use Rattle.carried_tables.specs.declared.carried_tables.EditPlaces.{EditPlaces}
 use Rattle.carried_tables.specs.declared.script.Script.{Script}
 use Rattle.carried_tables.specs.declared.touched_tables.TouchedTables.{TouchedTables}
 use Rattle.line_edits.specs.SeenEdits.{seen_edits}
@@ -13,6 +16,7 @@ use Rattle.line_edits.specs.GshadowChanges.{gshadow_becomes}
 use Rattle.line_edits.specs.PasswdChanges.{passwd_becomes}
 use Rattle.line_edits.specs.ShadowChanges.{shadow_becomes}
 use Rattle.line_edits.specs.SubidChanges.{subid_becomes}
+use Rattle.table.specs.TableEdits.{AreEditedIn}
 use Rattle.tool_answers.specs.declared.tool_fault.ToolFault.{ToolFault}
 use Rattle.tool_answers.specs.declared.tool_fault.ToolFault.TheVariants.{Refused, Memory}
 
@@ -30,6 +34,19 @@ seen_script script = record {
 -- the new script has the edits of the old one, and these behind them
 abbrev pub HasAlso : model.Script → Script → Script → Type 0
 HasAlso edits old new = seen_script new ≡ model.followed_by (seen_script old) edits
+
+-- the script touches no record whose name has several, and these are the places of edits, as far as told
+pub record AreUnmet (script : model.Script) (files : Files) (places : EditPlaces) : Type 0 where
+  pub single : None ≡ multiple_entries script files
+  pub passwd : AreEditedIn passwd_format script.passwd files.passwd places.passwd.items
+  pub shadow : AreEditedIn shadow_format script.shadow files.shadow places.shadow.items
+  pub group : AreEditedIn group_format script.group files.group places.group.items
+  pub gshadow : AreEditedIn gshadow_format script.gshadow files.gshadow places.gshadow.items
+
+-- what is known of a script before its edits are made: where, or why they aren't
+abbrev pub IsChecked : model.Script → Files → Result EditPlaces Refusal → Type 0
+IsChecked script files (Ok places) = AreUnmet script files places
+IsChecked script files (Err refusal) = Some refusal ≡ multiple_entries script files
 
 -- the script touches no record whose name has several, its edits are made, and they leave each table
 -- but these

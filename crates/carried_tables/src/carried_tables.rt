@@ -3,10 +3,9 @@
 ghost use Rattle.std.specs.Prelude.{◌≡◌, ◌++◌, [], false, is_some, IfOk, OnOk};
 ghost use Rattle.acct_text.specs.ChangedTables.{changed_bytes, changed_tables, with_new_table};
 ghost use Rattle.acct_text.specs.Files.{table_of};
-ghost use Rattle.account_model.specs.Action.{multiple_entries};
 ghost use Rattle.account_model.specs.WrittenScript.{IsWrittenScript};
 ghost use Rattle.carried_tables.specs.Changes.{UneditedStay, StandWhere, is_touched};
-ghost use Rattle.carried_tables.specs.Scripts.{CarriesOut, seen_script};
+ghost use Rattle.carried_tables.specs.Scripts.{AreUnmet, CarriesOut, IsChecked, seen_script};
 
 use crate::{IdTable, RangeTable, Script, TouchedTables};
 use account_model::Refusal;
@@ -17,6 +16,15 @@ use std::marker::Model;
 use std::mem::replace;
 use table::{KeyedRecord, Table};
 use tool_answers::ToolFault;
+
+// The places of the lines that a script changes, as far as they are told.
+#[derive(Drop)]
+struct EditPlaces {
+    passwd: Vec<usize>,
+    shadow: Vec<usize>,
+    group: Vec<usize>,
+    gshadow: Vec<usize>,
+}
 
 /// The six tables. Where an index is asked for, a command takes no pass over all records of a table for
 /// what it looks up by name, for the IDs that are used, and for edits of records that it names. Contracts
@@ -153,43 +161,68 @@ impl<'a> CarriedTables<'a> {
         requires { IsWrittenScript (seen_script script.now) }
         ensures { CarriesOut (seen_script script.now) self.old self.new result }
     {
-        if let Some(refusal) = self.first_multiple(alloc, script)? {
-            return Err(ToolFault::Refused(refusal));
+        match self.check(alloc, script)? {
+            Ok(places) => self.edit(alloc, script, &places),
+            Err(refusal) => Err(ToolFault::Refused(refusal)),
         }
-        Ok(TouchedTables {
-            passwd: self.passwd.edit(alloc, &script.passwd)?,
-            shadow: self.shadow.edit(alloc, &script.shadow)?,
-            group: self.group.edit(alloc, &script.group)?,
-            gshadow: self.gshadow.edit(alloc, &script.gshadow)?,
-            subuid: self.subuid.edit(alloc, &script.subuid)?,
-            subgid: self.subgid.edit(alloc, &script.subgid)?,
-        })
     }
 
-    // The refusal of the first record that the script touches and whose name has several.
-    fn first_multiple(
+    // The places that the edits change, as far as they are told; or the refusal of the first record that the
+    // script touches and whose name has several.
+    fn check(
         &mut self,
         alloc: Global,
         script: &Script,
-    ) -> Result<Option<Refusal>, AllocError>
+    ) -> Result<Result<EditPlaces, Refusal>, AllocError>
         requires { IsWrittenScript (seen_script script.now) }
-        ensures refusal { IfOk result (λ refusal.
-            refusal ≡ multiple_entries (seen_script script.now) self.old) }
+        ensures checked { IfOk result (IsChecked (seen_script script.now) self.old) }
         ensures same { self.new ≡ self.old }
     {
-        if let Some(name) = self.passwd.first_multiple(alloc, &script.passwd)? {
-            return Ok(Some(Refusal::Multiple(Tab::Passwd, name)));
+        let passwd = self.passwd.check(alloc, &script.passwd)?;
+        if let Some(name) = passwd.multiple {
+            return Ok(Err(Refusal::Multiple(Tab::Passwd, name)));
         }
-        if let Some(name) = self.shadow.first_multiple(alloc, &script.shadow)? {
-            return Ok(Some(Refusal::Multiple(Tab::Shadow, name)));
+        let shadow = self.shadow.check(alloc, &script.shadow)?;
+        if let Some(name) = shadow.multiple {
+            return Ok(Err(Refusal::Multiple(Tab::Shadow, name)));
         }
-        if let Some(name) = self.group.first_multiple(alloc, &script.group)? {
-            return Ok(Some(Refusal::Multiple(Tab::Group, name)));
+        let group = self.group.check(alloc, &script.group)?;
+        if let Some(name) = group.multiple {
+            return Ok(Err(Refusal::Multiple(Tab::Group, name)));
         }
-        if let Some(name) = self.gshadow.first_multiple(alloc, &script.gshadow)? {
-            return Ok(Some(Refusal::Multiple(Tab::Gshadow, name)));
+        let gshadow = self.gshadow.check(alloc, &script.gshadow)?;
+        if let Some(name) = gshadow.multiple {
+            return Ok(Err(Refusal::Multiple(Tab::Gshadow, name)));
         }
-        Ok(None)
+        Ok(Ok(EditPlaces {
+            passwd: passwd.places,
+            shadow: shadow.places,
+            group: group.places,
+            gshadow: gshadow.places,
+        }))
+    }
+
+    // Makes the edits of a script that touches no record of several of its name.
+    fn edit(
+        &mut self,
+        alloc: Global,
+        script: &Script,
+        places: &EditPlaces,
+    ) -> Result<TouchedTables, ToolFault>
+        requires written { IsWrittenScript (seen_script script.now) }
+        requires unmet { AreUnmet (seen_script script.now) self.old places.now }
+        ensures { CarriesOut (seen_script script.now) self.old self.new result }
+    {
+        Ok(TouchedTables {
+            passwd: self.passwd.edit(alloc, &script.passwd, &places.passwd)?,
+            shadow: self.shadow.edit_at(alloc, &script.shadow, &places.shadow)?,
+            group: self.group.edit(alloc, &script.group, &places.group)?,
+            gshadow: self
+                .gshadow
+                .edit_at(alloc, &script.gshadow, &places.gshadow)?,
+            subuid: self.subuid.edit(alloc, &script.subuid)?,
+            subgid: self.subgid.edit(alloc, &script.subgid)?,
+        })
     }
 
     /// Takes the tables out that differ from the first ones, in the fixed order, among those that may. What

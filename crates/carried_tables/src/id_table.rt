@@ -5,9 +5,9 @@ ghost use Rattle.account_model.specs.RecordEdits.{IsWrittenEdit};
 ghost use Rattle.account_model.specs.Tables.{table_after, table_records};
 ghost use Rattle.account_model.specs.Ids.{is_used};
 ghost use Rattle.id_choice.specs.Used.{AreThoseOf};
-ghost use Rattle.line_edits.specs.SeenEdits.{seen_edit};
+ghost use Rattle.line_edits.specs.SeenEdits.{seen_edit, seen_edits};
 ghost use Rattle.carried_tables.specs.KeptIds.{AreIdsOf, FollowEdit, Renumbers, ids_in, table_counts};
-ghost use Rattle.table.specs.TableEdits.{AreWritten, multiple_by, table_by};
+ghost use Rattle.table.specs.TableEdits.{AreEditedIn, AreWritten, multiple_by, table_by};
 
 use crate::IdsInUse;
 use crate::ids::{IdRecord, OfId, Renumbering};
@@ -19,7 +19,7 @@ use line_edits::Edit;
 use std::alloc::{AllocError, Global};
 use std::marker::Model;
 use std::mem::replace;
-use table::Table;
+use table::{Checked, Table};
 
 /// A table of the records R, and their IDs where they were gathered. Contracts see it as the bytes of
 /// its file, and none where the file is absent.
@@ -133,36 +133,40 @@ impl<'a, R: IdRecord + Drop> IdTable<'a, R> {
         }
     }
 
-    /// The name of the first record that the edits touch and whose name has several records.
-    pub(crate) fn first_multiple(
+    /// What the edits meet, before they are made.
+    pub(crate) fn check(
         &mut self,
         alloc: Global,
         edits: &[Edit<R, R::Change>],
-    ) -> Result<Option<Bytes>, AllocError>
+    ) -> Result<Checked, AllocError>
         requires { AreWritten R.format R.becomes edits.now }
-        ensures name { IfOk result (λ name. name ≡
+        ensures multiple { IfOk result (λ checked. checked.multiple ≡
             multiple_by R.format R.becomes edits.now (table_records R.format self.old)) }
+        ensures places { IfOk result (λ checked.
+            AreEditedIn R.format (seen_edits R.becomes edits.now) self.old checked.places.items) }
         ensures same { self.new ≡ self.old }
     {
-        self.table.first_multiple(alloc, edits)
+        self.table.check(alloc, edits)
     }
 
-    /// Carries the edits out, in their order, and tells whether the table may differ then. Where the IDs
-    /// are known they follow an added record, and one whose ID goes or changes where no other has its name
-    /// or its ID; behind other edits they are gathered anew. At `AllocError` some of the edits may be made,
-    /// or the table is gone.
+    /// Carries the edits out, in their order, one change in these places alone, where such are told; and
+    /// tells whether the table may differ then. Where the IDs are known they follow an added record, and one
+    /// whose ID goes or changes where no other has its name or its ID; behind other edits they are gathered
+    /// anew. At `AllocError` some of the edits may be made, or the table is gone.
     pub(crate) fn edit(
         &mut self,
         alloc: Global,
         edits: &[Edit<R, R::Change>],
+        places: &[usize],
     ) -> Result<bool, AllocError>
-        requires { AreWritten R.format R.becomes edits.now }
+        requires written { AreWritten R.format R.becomes edits.now }
+        requires places { AreEditedIn R.format (seen_edits R.becomes edits.now) self.old places.now }
         ensures edited { OnOk result (self.new ≡ table_by R.format R.becomes edits.now self.old) }
         ensures left { IfOk result (λ differ. differ ≡ false → self.new ≡ self.old) }
     {
         if self.ids.is_none() || !self.table.is_there() {
             self.ids = None;
-            return self.table.edit(alloc, edits);
+            return self.table.edit_at(alloc, edits, places);
         }
         let mut left = edits;
         'edits: while !left.is_empty() {

@@ -3,7 +3,7 @@
 -- lower of their first places (`first-either`), so the first record that edits meet is found edit by
 -- edit (`met-more`); one whose name has no several isn't met (`single-unmet`), and none by an edit that
 -- touches no record (`added-meets`). Way: cell by cell, whose places go up.
-use Rattle.std.proofs.Common.{◌≡◌, ◌∙◌, ℕ, ◌<◌, Bool, true, false, List, [], ◌∷◌, ◌++◌, refl, sym, ap, ap₂, inl, inr, arith}
+use Rattle.std.proofs.Common.{◌≡◌, ◌∙◌, ℕ, ◌<◌, Bool, true, false, List, [], ◌∷◌, ◌++◌, get_or, length, zero, suc, refl, sym, ap, ap₂, subst, inl, inr, arith}
 use Rattle.std.specs.Prelude.{◌&&◌, ◌||◌, find, nat_le, option_map, Option, None, Some}
 use Rattle.std.specs.List.{AllByRecursion, list_any}
 use Rattle.std.proofs.lemmas.Bool.{cases_Bool}
@@ -13,13 +13,17 @@ use Rattle.account_model.specs.Edits as model
 use Rattle.account_model.specs.Format.{Format, count_named, records_of}
 use Rattle.account_model.specs.Ids.{is_used}
 use Rattle.account_model.specs.RecordEdits.{TellsSame}
+use Rattle.line_edits.specs.SeenEdits.{seen_edit, seen_edits}
 use Rattle.line_edits.specs.Touching.{is_met, touches_alone}
+use Rattle.line_edits.specs.declared.edit.Edit.{Edit}
 use Rattle.line_edits.proofs.TouchedEdits.{first-or}
-use Rattle.acct_tables.specs.Cells.{ArePlaced, cell_at, lines_now}
+use Rattle.acct_text.specs.Lines.{lines_of}
+use Rattle.acct_tables.specs.Cells.{ArePlaced, cell_at, cells_from, lines_now}
 use Rattle.acct_tables.specs.declared.cell.Cell.{Cell}
 use Rattle.table.specs.Accepting.{is_accepted}
-use Rattle.table.specs.Met.{MeetsAt, earlier, first_in, has_met, meets}
+use Rattle.table.specs.Met.{AreEditedAt, IsEditedAt, MeetsAt, earlier, first_in, has_met, meets}
 use Rattle.table.specs.TableCells.{IsSound, has_in, records_read}
+use Rattle.acct_tables.proofs.PlacedCells.{lines-stand}
 use Rattle.table.proofs.PlaceLemmas.{pairs-first, pairs-others}
 use Rattle.table.proofs.PutRecords.{any-read, first-holds, first-there}
 use Rattle.table.proofs.ReachLemmas.{there-all}
@@ -299,3 +303,39 @@ module _ {R : Type 0} (format : Format R) (cells : List Cell) where
       sound = sound;
       placed = placed;
     }
+
+-- ---- Where edits are made
+
+-- lines that stand in a file as they came have their places in it
+pub kept-stand :
+    (cells : List Cell) (text : List ℕ)
+    → cells ≡ cells_from 0 (lines_of text)
+    → cells ≡ cells_from 0 (lines_now cells)
+kept-stand cells text kept =
+    kept
+    ∙ sym (ap (λ cells. cells_from 0 (lines_now cells)) kept
+    ∙ ap (cells_from 0) (lines-stand 0 (lines_of text)))
+
+module _ {R : Type 0} (format : Format R) (cells : List Cell) where
+  -- no places are told
+  pub none-told :
+      (edits : List (model.Edit R)) (places : List ℕ)
+      → places ≡ []
+      → AreEditedAt format edits cells places
+  none-told [] places none = tt
+  none-told (edit ∷ []) places none = λ some. absurd (some none)
+  none-told (edit ∷ other ∷ edits) places none = tt
+
+  -- the places of one edit of a list are those of the only one, if it is that
+  pub only-edited :
+      {C : Type 0} (becomes : C → R → List R) (edits : List (Edit R C)) (index : ℕ) (edit : Edit R C)
+      (places : List ℕ)
+      → index < length edits
+      → edit ≡ get_or edits index edit
+      → IsEditedAt format (seen_edit becomes edit) cells places
+      → AreEditedAt format (seen_edits becomes edits) cells places
+  only-edited becomes [] index edit places inside is at = tt
+  only-edited becomes (only ∷ []) zero edit places inside is at = λ some.
+      subst (λ edit. IsEditedAt format (seen_edit becomes edit) cells places) is at
+  only-edited becomes (only ∷ []) (suc index) edit places inside is at = absurd (omega arith)
+  only-edited becomes (one ∷ other ∷ edits) index edit places inside is at = tt

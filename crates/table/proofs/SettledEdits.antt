@@ -4,7 +4,7 @@
 -- that touches records of a name without several meets none (`single-none`). Way: a record that an edit
 -- meets is touched, so it has the key and the name.
 use Rattle.std.proofs.Common.{◌≡◌, ◌∙◌, ℕ, ◌<◌, ◌≤◌, Bool, true, false, eqb, List, [], ◌∷◌, refl, sym, ap, subst, inl, inr, arith}
-use Rattle.std.specs.Prelude.{◌&&◌, AllPairs, IfSome, MatchOption, nat_le, Option, None, Some}
+use Rattle.std.specs.Prelude.{◌&&◌, ◌||◌, AllPairs, IfSome, MatchOption, nat_le, Option, None, Some}
 use Rattle.std.specs.List.{AllByRecursion, list_any}
 use Rattle.std.proofs.lemmas.Bool.{cases_Bool, eqb-true, or_cases}
 use Rattle.std.proofs.lemmas.Slice.Eq.{bytes_eq-Decides}
@@ -24,13 +24,13 @@ use Rattle.acct_tables.specs.KeyPlaces.{has_key}
 use Rattle.table.specs.Accepting.{is_accepted}
 use Rattle.table.specs.FirstMet.{AreAsked, IsSettled, MeetsNoEarlier, NeedsKey, StandsNoEarlier}
 use Rattle.table.specs.LastEdits.{HoldsOfLast, IsOneOf}
-use Rattle.table.specs.Met.{TouchesNamed, earlier, first_in, has_met}
-use Rattle.table.specs.TableCells.{HoldsOf, HoldsThere, Reaches, has_in}
+use Rattle.table.specs.Met.{IsEditedAt, MeetsAt, TouchesNamed, earlier, first_in, has_met}
+use Rattle.table.specs.TableCells.{HoldsOf, HoldsThere, Reaches, TouchesAt, has_in}
 use Rattle.table.specs.declared.last_edits.LastEdits.{LastEdits}
 use Rattle.table.specs.declared.first_met.FirstMet.{FirstMet}
 use Rattle.table.proofs.MetRecords.{earlier-joined}
 use Rattle.table.proofs.PlaceLemmas.{pairs-first, used-behind}
-use Rattle.table.proofs.ReachLemmas.{there-all, there-weaker}
+use Rattle.table.proofs.ReachLemmas.{reached-touches, there-all, there-weaker}
 
 -- ---- The last edits
 
@@ -154,13 +154,66 @@ module _ {R : Type 0} (format : Format R) where
             | inr rejects ↦ here texts holds.1 (rw rejects at is)
           ]
 
+  -- a change is made where its records stand
+  pub touched-meets :
+      (f : R → List R) (cells : List Cell) (places : List ℕ)
+      → TellsSame format
+      → TouchesAt format f cells places
+      → MeetsAt format (Become f) cells places
+  touched-meets f cells places tells touches =
+      let whole = records_of format (lines_now cells) in
+      record {
+        all = there-weaker format (λ place r. is_used places place ≡ false → f r ≡ r ∷ [])
+            (λ place r. is_met format (Become f ∷ []) whole r ≡ true → is_used places place ≡ true)
+            (λ place r left met. elim (cases_Bool (is_used places place)) [
+              | inl used ↦ used
+              | inr unused ↦
+                  let both : true ≡ false = sym met
+                  ∙ ap (λ touched. touched && is_multiple format whole r)
+                  (left-untouched format tells f r (left unused)) in
+                  absurd cc
+            ])
+            cells touches.others;
+        ascending = touches.ascending;
+        sound = touches.sound;
+        placed = touches.placed;
+      }
+
+  -- and so is one of a name
+  pub named-edited :
+      (edit : model.Edit R) (name : List ℕ) (cells : List Cell) (places : List ℕ)
+      → TouchesNamed format edit name
+      → Reaches format (is_named format name) cells places
+      → IsEditedAt format edit cells places
+  named-edited (Become f) name cells places named reached =
+      reached-touches format f (is_named format name) cells places
+      (λ r isn't. named r (ap (λ is. is || false) isn't)) reached
+  named-edited (Add s) name cells places named reached = absurd named
+  named-edited (AddMissing s) name cells places named reached = absurd named
+  named-edited (Put s) name cells places named reached = absurd named
+  named-edited (Arrange key) name cells places named reached = absurd named
+
+  pub named-meets :
+      (edit : model.Edit R) (name : List ℕ) (cells : List Cell) (places : List ℕ)
+      → TellsSame format
+      → TouchesNamed format edit name
+      → Reaches format (is_named format name) cells places
+      → MeetsAt format edit cells places
+  named-meets (Become f) name cells places tells named reached =
+      touched-meets f cells places tells (named-edited (Become f) name cells places named reached)
+  named-meets (Add s) name cells places tells named reached = absurd named
+  named-meets (AddMissing s) name cells places tells named reached = absurd named
+  named-meets (Put s) name cells places tells named reached = absurd named
+  named-meets (Arrange key) name cells places tells named reached = absurd named
+
   -- an edit that touches only records of a name without several meets none
   pub single-none :
       (edit : model.Edit R) (name : List ℕ) (cells : List Cell)
+      → TellsSame format
       → TouchesNamed format edit name
       → nat_le 2 (count_named format name (records_of format (lines_now cells))) ≡ false
       → first_in (has_met format (edit ∷ []) cells) cells ≡ None
-  single-none edit name cells named single =
+  single-none edit name cells tells named single =
       none (first_in (has_met format (edit ∷ []) cells) cells)
       (first-place (is_met format (edit ∷ []) (records_of format (lines_now cells))) (λ place. ⊥)
       cells
@@ -171,6 +224,17 @@ module _ {R : Type 0} (format : Format R) where
       none : (found : Option ℕ) → IfSome found (λ place. ⊥) → found ≡ None
       none None holds = refl
       none (Some place) holds = absurd holds
+
+      other : (edit : model.Edit R) (r : R)
+          → TouchesNamed format edit name
+          → is_named format name r ≡ false
+          → touches_alone format edit r ≡ false
+      other (Become f) r named isn't =
+          left-untouched format tells f r (named r (ap (λ is. is || false) isn't))
+      other (Add s) r named isn't = absurd named
+      other (AddMissing s) r named isn't = absurd named
+      other (Put s) r named isn't = absurd named
+      other (Arrange key) r named isn't = absurd named
 
       never : (touched : Bool) → (touched && false) ≡ false
       never true = refl
@@ -191,7 +255,7 @@ module _ {R : Type 0} (format : Format R) where
         | inr isn't ↦
             let both : true ≡ false = sym met
             ∙ ap (λ touched. touched && is_multiple format (records_of format (lines_now cells)) r)
-            (named r isn't) in
+            (other edit r named isn't) in
             absurd cc
       ]
 

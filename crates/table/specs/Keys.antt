@@ -1,6 +1,8 @@
 -- The keys of records, by which an index tells where they are, and what changes do to them (passwd(5),
 -- shadow(5), group(5), gshadow(5), subuid(5), subgid(5)). The first key of each record is that of its own name.
-use Rattle.std.specs.Prelude.{◌≡◌, ℕ, ◌+◌, ◌%◌, ◌^◌, ◌||◌, Contains, true, false, List, [], ◌∷◌, ◌++◌, map, Option, None, Some}
+use Rattle.std.specs.Prelude.{◌≡◌, ℕ, ◌+◌, ◌%◌, ◌^◌, ◌||◌, Contains, true, false, List, [], ◌∷◌, ◌++◌, map, refl, Option, None, Some}
+use Rattle.std.proofs.Common.{ap}
+use Rattle.std.proofs.lemmas.Bool.{eq-eqb}
 use Rattle.std.specs.List.{cons_option}
 use Rattle.account_model.specs.declared.records.GroupRecord.{GroupRecord}
 use Rattle.account_model.specs.declared.records.GshadowRecord.{GshadowRecord}
@@ -66,6 +68,10 @@ gshadow_keys group =
 abbrev pub keys_in : {R : Type 0} → (R → List ℕ) → Option R → List ℕ
 keys_in keys_of None = []
 keys_in keys_of (Some r) = keys_of r
+
+-- keys have the first of them
+pub first-has : (key : ℕ) (rest : List ℕ) → has_key key (key ∷ rest) ≡ true
+first-has key rest = ap (λ test. test || has_key key rest) (eq-eqb key key refl)
 
 -- each record has the key of its own name
 abbrev pub HaveOwnKeys : {R : Type 0} → Format R → (R → List ℕ) → Type 0

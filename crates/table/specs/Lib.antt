@@ -6,4 +6,3 @@ pub mod LastEdits
 pub mod FirstMet
 pub mod Changed
 pub mod Keys
-pub mod OwnKeys

@@ -7,9 +7,10 @@ ghost use Rattle.account_model.specs.Format.{has_named, records_of};
 ghost use Rattle.account_model.specs.RecordEdits.{IsWrittenEdit};
 ghost use Rattle.account_model.specs.Written.{IsWritten};
 ghost use Rattle.line_edits.specs.SeenEdits.{seen_edit};
-ghost use Rattle.acct_tables.specs.Cells.{lines_now};
+ghost use Rattle.acct_tables.specs.Cells.{cells_from, lines_now};
 ghost use Rattle.table.specs.Changed.{changed_there};
-ghost use Rattle.table.specs.TableCells.{cells_there, has_named_in};
+ghost use Rattle.table.specs.Met.{AreEditedAt};
+ghost use Rattle.table.specs.TableCells.{TouchesAt, cells_there, has_named_in};
 
 use crate::keyed_cells::KeyedCells;
 use crate::keys::KeyedRecord;
@@ -50,8 +51,49 @@ impl<'a, R: KeyedRecord + Drop> KeyedCells<'a, R> {
             → lines_now self.new ≡ lines_now self.old) }
     {
         let places = self.touched(alloc, change)?;
+        self.change_in(alloc, change, places.as_slice())
+    }
+
+    /// The same where these places are told of a file of these lines, if there are such.
+    pub(crate) fn change_at_told(
+        &mut self,
+        alloc: Global,
+        change: &R::Change,
+        places: &[usize],
+    ) -> Result<bool, AllocError>
+        requires written { IsWrittenEdit R.format (model.Become (R.becomes change.now)) }
+        requires places { AreEditedAt R.format (model.Become (R.becomes change.now) ∷ [])
+            (cells_from 0 (lines_now self.old)) places.now }
+        ensures edited { OnOk result (lines_now self.new
+            ≡ edited R.format (lines_now self.old) (model.Become (R.becomes change.now))) }
+        ensures same { IfOk result (λ differ. differ ≡ false
+            → lines_now self.new ≡ lines_now self.old) }
+    {
+        if places.is_empty() {
+            return self.change(alloc, change);
+        }
+        match self.file.kept_text() {
+            Some(_) => self.change_in(alloc, change, places),
+            None => self.change(alloc, change),
+        }
+    }
+
+    // The same in these places, where all such records stand.
+    fn change_in(
+        &mut self,
+        alloc: Global,
+        change: &R::Change,
+        places: &[usize],
+    ) -> Result<bool, AllocError>
+        requires written { IsWrittenEdit R.format (model.Become (R.becomes change.now)) }
+        requires places { TouchesAt R.format (R.becomes change.now) self.old places.now }
+        ensures edited { OnOk result (lines_now self.new
+            ≡ edited R.format (lines_now self.old) (model.Become (R.becomes change.now))) }
+        ensures same { IfOk result (λ differ. differ ≡ false
+            → lines_now self.new ≡ lines_now self.old) }
+    {
         self.wear(visits::<R>(change, places.len()));
-        self.change_each(alloc, change, places.as_slice())
+        self.change_each(alloc, change, places)
     }
 
     // Notes that an edit comes to so many places by a key.

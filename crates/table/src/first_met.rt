@@ -2,15 +2,18 @@
 // gshadow(5), subuid(5), subgid(5)). An edit isn't asked about that does the same as one of the last two,
 // nor one that needs a key which no record in front of that place has.
 ghost use Rattle.std.specs.Prelude.{◌≡◌, ◌∷◌, ◌≤◌, ℕ, List, [], true, None, Some, IfOk, IfSome, MatchOption};
+ghost use Rattle.account_model.specs.Format.{is_named};
 ghost use Rattle.account_model.specs.RecordEdits.{IsWrittenEdit};
 ghost use Rattle.line_edits.specs.SeenEdits.{seen_edit, seen_edits};
 ghost use Rattle.table.specs.FirstMet.{AreAsked, IsSettled, NeedsKey, StandsNoEarlier};
-ghost use Rattle.table.specs.Met.{earlier, first_in, has_met};
+ghost use Rattle.table.specs.Met.{AreEditedAt, IsEditedAt, MeetsAt, TouchesNamed, earlier, first_in, has_met};
+ghost use Rattle.table.specs.TableCells.{Reaches};
 ghost use Rattle.table.specs.TableEdits.{AreWritten};
 
 use crate::keyed_cells::KeyedCells;
 use crate::keys::KeyedRecord;
 use crate::last_edits::{LastEdits, have_same};
+use crate::multiple::touched_name;
 use line_edits::Edit;
 use std::alloc::{AllocError, Global};
 
@@ -23,24 +26,30 @@ pub(crate) struct FirstMet<'e, E> {
     pub(crate) key: Option<u64>,
     /// The last edits that were asked about.
     pub(crate) last: LastEdits<'e, E>,
+    /// The places where records may stand that the last of these touches.
+    pub(crate) places: Vec<usize>,
 }
 
 impl<'a, R: KeyedRecord + Drop> KeyedCells<'a, R> {
-    /// The first place with such a record.
-    pub(crate) fn first_met(
-        &self,
+    /// What is known by all edits.
+    pub(crate) fn first_met<'e>(
+        &mut self,
         alloc: Global,
-        edits: &[Edit<R, R::Change>],
-    ) -> Result<Option<usize>, AllocError>
+        edits: &'e [Edit<R, R::Change>],
+    ) -> Result<FirstMet<'e, Edit<R, R::Change>>, AllocError>
         requires { AreWritten R.format R.becomes edits.now }
-        ensures { IfOk result (λ place. place
-            ≡ first_in (has_met R.format (seen_edits R.becomes edits.now) self.now) self.now) }
+        ensures place { IfOk result (λ met. met.place
+            ≡ first_in (has_met R.format (seen_edits R.becomes edits.now) self.old) self.old) }
+        ensures places { IfOk result (λ met. AreEditedAt R.format
+            (seen_edits R.becomes edits.now) self.old met.places.items) }
+        ensures same { self.new ≡ self.old }
     {
         let _ = &self.file;
         let mut met = FirstMet {
             place: None,
             key: None,
             last: LastEdits::none(),
+            places: Vec::new(alloc),
         };
         'edits: for edit in edits {
             if is_settled::<R>(&met, edit) {
@@ -48,29 +57,80 @@ impl<'a, R: KeyedRecord + Drop> KeyedCells<'a, R> {
             }
             met = self.met_after(alloc, met, edit)?;
         }
-        Ok(met.place)
+        Ok(met)
     }
 
-    // What is known with this edit too.
+    // What is known with this edit too. Where it may touch many records, the index is made.
     fn met_after<'e>(
-        &self,
+        &mut self,
         alloc: Global,
         met: FirstMet<'e, Edit<R, R::Change>>,
         edit: &'e Edit<R, R::Change>,
     ) -> Result<FirstMet<'e, Edit<R, R::Change>>, AllocError>
         requires written { IsWrittenEdit R.format (seen_edit R.becomes edit.now) }
-        requires asked { AreAsked R.format R.keys R.becomes self.now met }
+        requires asked { AreAsked R.format R.keys R.becomes self.old met }
         ensures place { IfOk result (λ after. after.place ≡ earlier met.entry.place
-            (first_in (has_met R.format (seen_edit R.becomes edit.now ∷ []) self.now) self.now)) }
-        ensures asked { IfOk result (AreAsked R.format R.keys R.becomes self.now) }
+            (first_in (has_met R.format (seen_edit R.becomes edit.now ∷ []) self.old) self.old)) }
+        ensures asked { IfOk result (AreAsked R.format R.keys R.becomes self.old) }
+        ensures places { IfOk result (λ after.
+            IsEditedAt R.format (seen_edit R.becomes edit.now) self.old after.places.items) }
+        ensures same { self.new ≡ self.old }
     {
-        let found = self.met_by(alloc, edit)?;
+        let name = touched_name::<R>(edit);
+        let places = self.met_places(alloc, edit, name)?;
+        let reached = places.as_slice();
+        self.index_for(alloc, edit, name, reached)?;
+        let found = self.met_by(alloc, edit, name, reached)?;
         let place = earlier(met.place, found);
         Ok(FirstMet {
             place,
             key: self.key_behind(alloc, edit, place)?,
             last: met.last.with(edit),
+            places,
         })
+    }
+
+    // The places where records may stand that the edit touches, all of the name where it is one alone, from
+    // the first to the last.
+    fn met_places(
+        &self,
+        alloc: Global,
+        edit: &Edit<R, R::Change>,
+        name: Option<&[u8]>,
+    ) -> Result<Vec<usize>, AllocError>
+        requires { IfSome name (λ name.
+            TouchesNamed R.format (seen_edit R.becomes edit.now) name.now) }
+        ensures met { IfOk result (λ places.
+            MeetsAt R.format (seen_edit R.becomes edit.now) self.now places.items) }
+        ensures named { IfOk result (λ places. IfSome name.entry (λ name.
+            Reaches R.format (is_named R.format name.now) self.now places.items)) }
+        ensures edited { IfOk result (λ places.
+            IsEditedAt R.format (seen_edit R.becomes edit.now) self.now places.items) }
+    {
+        match name {
+            Some(name) => self.places_of(alloc, name),
+            None => self.other_places(alloc, edit),
+        }
+    }
+
+    // The same of an edit that may touch records of several names, or none.
+    fn other_places(
+        &self,
+        alloc: Global,
+        edit: &Edit<R, R::Change>,
+    ) -> Result<Vec<usize>, AllocError>
+        ensures met { IfOk result (λ places.
+            MeetsAt R.format (seen_edit R.becomes edit.now) self.now places.items) }
+        ensures edited { IfOk result (λ places.
+            IsEditedAt R.format (seen_edit R.becomes edit.now) self.now places.items) }
+    {
+        let _ = &self.file;
+        match edit {
+            Edit::Become(change) => self.touched(alloc, change),
+            Edit::Put(item) => self.places_of(alloc, item.name()),
+            Edit::Add(_) => Ok(Vec::new(alloc)),
+            Edit::AddMissing(_) => Ok(Vec::new(alloc)),
+        }
     }
 
     // The key that the edit needs, where no record in front of the place has it.

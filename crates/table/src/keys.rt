@@ -43,8 +43,7 @@ pub trait KeyedRecord: EditedRecord {
 }
 
 impl KeyedRecord for PasswdRecord {
-    ghost use Rattle.table.specs.Keys.{user_brought, user_keys};
-    ghost use Rattle.table.specs.OwnKeys.{user-own};
+    ghost use Rattle.table.specs.Keys.{first-has, own_key, user_brought, user_keys};
 
     ghost keys = { user_keys };
 
@@ -80,7 +79,7 @@ impl KeyedRecord for PasswdRecord {
         }
     }
 
-    ghost own = { user-own };
+    ghost own = { λ user. first-has (own_key user.name) _ };
 }
 
 // Notes the name and the GID there that the act gives.
@@ -100,8 +99,7 @@ fn bring_to_user(act: &PasswdAct, spot: Spot, index: &mut KeyPlaces)
 }
 
 impl KeyedRecord for ShadowRecord {
-    ghost use Rattle.table.specs.Keys.{shadow_brought, shadow_keys};
-    ghost use Rattle.table.specs.OwnKeys.{shadow-own};
+    ghost use Rattle.table.specs.Keys.{first-has, own_key, shadow_brought, shadow_keys};
 
     ghost keys = { shadow_keys };
 
@@ -129,12 +127,11 @@ impl KeyedRecord for ShadowRecord {
         }
     }
 
-    ghost own = { shadow-own };
+    ghost own = { λ user. first-has (own_key user.name) _ };
 }
 
 impl KeyedRecord for SubidRecord {
-    ghost use Rattle.table.specs.Keys.{subid_brought, subid_keys};
-    ghost use Rattle.table.specs.OwnKeys.{subid-own};
+    ghost use Rattle.table.specs.Keys.{first-has, own_key, subid_brought, subid_keys};
 
     ghost keys = { subid_keys };
 
@@ -164,5 +161,5 @@ impl KeyedRecord for SubidRecord {
         }
     }
 
-    ghost own = { subid-own };
+    ghost own = { λ range. first-has (own_key range.owner) _ };
 }

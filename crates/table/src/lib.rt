@@ -6,7 +6,8 @@
 //! (`gathering`). A look-up or an edit reads the texts in the places of its key (`reached_places`), one
 //! after another (`texts_there`): they are few, and no other text is a record with the key. `keyed_cells`
 //! looks up by names and tests (`named_texts`), `cell_edits` puts new texts (`new_texts`), and `multiple`
-//! finds the first record that edits touch and whose name has several, edit by edit (`first_met`). Edits
+//! finds, edit by edit (`first_met`), the first record that edits touch and whose name has several, and where
+//! the only edit is made, so that it needn't be looked for again. Edits
 //! that do the same as one of the last (`last_edits`) are passed by.
 //!
 //! Where there is no index, edits go to the places of lines that have marks of them, and the lines are made
@@ -38,4 +39,4 @@ mod texts_there;
 
 pub use keys::KeyedRecord;
 pub use search::{OfGid, RecordTest};
-pub use table::{Table, edited_text};
+pub use table::{Checked, Table, edited_text};

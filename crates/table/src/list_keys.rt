@@ -12,8 +12,7 @@ use acct_tables::{KeyPlaces, Spot, name_hash};
 use line_edits::{GroupAct, GroupChange, GshadowAct, GshadowChange, Membership, UserGroups};
 
 impl KeyedRecord for GroupRecord {
-    ghost use Rattle.table.specs.Keys.{group_brought, group_keys};
-    ghost use Rattle.table.specs.OwnKeys.{group-own};
+    ghost use Rattle.table.specs.Keys.{first-has, own_key, group_brought, group_keys};
 
     ghost keys = { group_keys };
 
@@ -49,7 +48,7 @@ impl KeyedRecord for GroupRecord {
         }
     }
 
-    ghost own = { group-own };
+    ghost own = { λ group. first-has (own_key group.name) _ };
 }
 
 // The key of the user without whom the act leaves a group; none at other acts.
@@ -77,8 +76,7 @@ fn bring_to_group(act: &GroupAct, spot: Spot, index: &mut KeyPlaces)
 }
 
 impl KeyedRecord for GshadowRecord {
-    ghost use Rattle.table.specs.Keys.{gshadow_brought, gshadow_keys};
-    ghost use Rattle.table.specs.OwnKeys.{gshadow-own};
+    ghost use Rattle.table.specs.Keys.{first-has, own_key, gshadow_brought, gshadow_keys};
 
     ghost keys = { gshadow_keys };
 
@@ -116,7 +114,7 @@ impl KeyedRecord for GshadowRecord {
         }
     }
 
-    ghost own = { gshadow-own };
+    ghost own = { λ group. first-has (own_key group.name) _ };
 }
 
 // The key of the user without whom the act leaves a record of gshadow; none at other acts.

@@ -1,56 +1,42 @@
-// Whether edits may touch so many records that an index of a table saves time (passwd(5), shadow(5),
-// group(5), gshadow(5), subuid(5), subgid(5)).
-ghost use Rattle.std.specs.Prelude.{◌≤◌, length};
-ghost use Rattle.acct_text.specs.Lines.{lines_of};
+// The index of a table that is made where an edit may touch so many records that it saves time (passwd(5),
+// shadow(5), group(5), gshadow(5)).
+ghost use Rattle.std.specs.Prelude.{◌≡◌};
 
 use crate::keyed_cells::KeyedCells;
 use crate::keys::KeyedRecord;
-use acct_tables::{Lines, MANY, from_marks};
-use line_edits::{ChangedNames, Edit};
+use crate::texts_there::TextsThere;
+use acct_tables::MANY;
+use line_edits::{Edit, leaves};
+use std::alloc::{AllocError, Global};
 
 impl<'a, R: KeyedRecord + Drop> KeyedCells<'a, R> {
-    /// Whether there is no index, and the edits are many, or may touch many records.
-    pub(crate) fn are_many(&self, edits: &[Edit<R, R::Change>]) -> bool {
-        let Some(text) = self.passed_text() else {
-            return false;
-        };
-        edits.len() >= MANY || edits.iter().any(|edit| may_touch_many::<R>(text, edit))
+    /// Makes the index where the edit may touch many records in these places, of more than this name.
+    pub(crate) fn index_for(
+        &mut self,
+        alloc: Global,
+        edit: &Edit<R, R::Change>,
+        name: Option<&[u8]>,
+        places: &[usize],
+    ) -> Result<(), AllocError>
+        ensures { self.new ≡ self.old }
+    {
+        if name.is_some() || !are_many::<R>(TextsThere::of(&self.file, places), edit) {
+            return Ok(());
+        }
+        self.index(alloc)
     }
 }
 
-// Whether the edit may touch many records, of more than one name.
-fn may_touch_many<R: KeyedRecord>(text: &[u8], edit: &Edit<R, R::Change>) -> bool {
-    let Edit::Become(change) = edit else {
-        return false;
-    };
-    match R::touched_names(change) {
-        Some(ChangedNames::One(_)) => false,
-        _ => are_many_open::<R>(text, change),
-    }
-}
-
-// Whether the change may touch so many lines that an index of all saves time.
-fn are_many_open<R: KeyedRecord>(text: &[u8], change: &R::Change) -> bool {
+// Whether the edit may touch many of the texts.
+fn are_many<R: KeyedRecord>(mut left: TextsThere<'_>, edit: &Edit<R, R::Change>) -> bool {
     let mut count = 0;
-    let mut left = Lines::of(marked_part::<R>(text, change));
-    'lines: while let Some(line) = left.take() {
-        if !R::leaves(change, line.text) {
+    'texts: while let Some(text) = left.take() {
+        if !leaves(edit, text) {
             count += 1;
         }
         if count == MANY {
             return true;
         }
-        left = Lines::of(marked_part::<R>(left.bytes(), change));
     }
     false
-}
-
-// The text from the first line on that has one of the marks of the change; all where it has no marks.
-fn marked_part<'a, R: KeyedRecord>(text: &'a [u8], change: &R::Change) -> &'a [u8]
-    ensures { length (lines_of result.now) ≤ length (lines_of text.now) }
-{
-    match R::marks(change) {
-        Some(marks) => from_marks(text, marks),
-        None => text,
-    }
 }

@@ -1,90 +1,102 @@
-// The first record that edits of a table touch and whose name has several (passwd(5), shadow(5),
-// group(5), gshadow(5), subuid(5), subgid(5)). An edit is asked about in the places that it is carried
-// out in, one after another, and none about the places of others.
-ghost use Rattle.std.specs.Prelude.{◌≡◌, ◌∷◌, [], true, Some, None, find, option_map, IfOk, IfSome};
+// What edits of a table meet: the first record that they touch and whose name has several (passwd(5),
+// shadow(5), group(5), gshadow(5), subuid(5), subgid(5)). An edit is asked about in the places that it is
+// carried out in, one after another, and none about the places of others.
+ghost use Rattle.std.specs.Prelude.{◌≡◌, ◌∷◌, [], true, false, Some, find, nat_le, option_map, IfOk, IfSome};
 ghost use Rattle.std.specs.List.{AllByRecursion, cons_option, list_any};
 ghost use Rattle.acct_text.specs.Bytes.{newline};
 ghost use Rattle.acct_text.specs.Pieces.{Lacks};
-ghost use Rattle.account_model.specs.Format.{records_of};
+ghost use Rattle.account_model.specs.Format.{count_named, is_named, records_of};
 ghost use Rattle.account_model.specs.RecordEdits.{IsWrittenEdit};
 ghost use Rattle.line_edits.specs.SeenEdits.{seen_edit, seen_edits};
 ghost use Rattle.line_edits.specs.Touching.{is_met};
-ghost use Rattle.acct_tables.specs.Cells.{cell_at, lines_now};
-ghost use Rattle.table.specs.Met.{MeetsAt, TouchesNamed, first_in, has_met, meets};
-ghost use Rattle.table.specs.TableCells.{cells_there, records_read};
+ghost use Rattle.acct_tables.specs.Cells.{cell_at, cells_from, lines_now};
+ghost use Rattle.table.specs.Met.{AreEditedAt, MeetsAt, TouchesNamed, first_in, has_met, meets};
+ghost use Rattle.table.specs.TableCells.{Reaches, cells_there, records_read};
 ghost use Rattle.table.specs.TableEdits.{AreWritten, multiple_by};
 
+use crate::Checked;
 use crate::keyed_cells::KeyedCells;
 use crate::keys::KeyedRecord;
-use acct_tables::{Texts, name_of};
+use crate::named_texts::are_several_named;
+use crate::texts_there::TextsThere;
+use acct_tables::{MANY, Texts, name_of};
 use acct_text::Bytes;
 use line_edits::{ChangedNames, Edit, leaves, touches};
 use std::alloc::{AllocError, Global};
 
 impl<'a, R: KeyedRecord + Drop> KeyedCells<'a, R> {
-    /// The name of the first record that the edits touch and whose name has several records. Where these
-    /// are many, the index is made.
-    pub(crate) fn first_multiple(
+    /// What edits meet, before they are made. Where they are many, the index is made.
+    pub(crate) fn check(
         &mut self,
         alloc: Global,
         edits: &[Edit<R, R::Change>],
-    ) -> Result<Option<Bytes>, AllocError>
+    ) -> Result<Checked, AllocError>
         requires { AreWritten R.format R.becomes edits.now }
-        ensures name { IfOk result (λ name. name ≡ multiple_by R.format R.becomes edits.now
-            (records_of R.format (lines_now self.old))) }
+        ensures multiple { IfOk result (λ checked. checked.multiple ≡
+            multiple_by R.format R.becomes edits.now (records_of R.format (lines_now self.old))) }
+        ensures places { IfOk result (λ checked. AreEditedAt R.format
+            (seen_edits R.becomes edits.now) (cells_from 0 (lines_now self.old))
+            checked.places.items) }
         ensures same { self.new ≡ self.old }
     {
-        if self.are_many(edits) {
+        if edits.len() >= MANY {
             self.index(alloc)?;
         }
-        match self.first_met(alloc, edits)? {
-            Some(place) => self.name_met(alloc, edits, place),
-            None => Ok(None),
+        let met = self.first_met(alloc, edits)?;
+        Ok(Checked {
+            multiple: self.name_met(alloc, edits, met.place)?,
+            places: self.kept_places(alloc, edits, met.places),
+        })
+    }
+
+    // The places, unless texts were put or added, so that lines may have others in the file.
+    fn kept_places(
+        &self,
+        alloc: Global,
+        _edits: &[Edit<R, R::Change>],
+        places: Vec<usize>,
+    ) -> Vec<usize>
+        requires { AreEditedAt R.format (seen_edits R.becomes _edits.now) self.now places.items }
+        ensures { AreEditedAt R.format (seen_edits R.becomes _edits.now)
+            (cells_from 0 (lines_now self.now)) result.items }
+    {
+        match self.file.kept_text() {
+            Some(_) => places,
+            None => Vec::new(alloc),
         }
     }
 
-    /// The first place with one that this edit touches. None is looked for where the edit touches records
-    /// of one name alone, which is looked up before.
+    /// The first place with a record that this edit touches and whose name has several. None is looked for
+    /// where the edit touches records of one name alone, which hasn't.
     pub(crate) fn met_by(
         &self,
         alloc: Global,
         edit: &Edit<R, R::Change>,
+        name: Option<&[u8]>,
+        places: &[usize],
     ) -> Result<Option<usize>, AllocError>
-        requires { IsWrittenEdit R.format (seen_edit R.becomes edit.now) }
+        requires written { IsWrittenEdit R.format (seen_edit R.becomes edit.now) }
+        requires only { IfSome name (λ name.
+            TouchesNamed R.format (seen_edit R.becomes edit.now) name.now) }
+        requires named { IfSome name (λ name.
+            Reaches R.format (is_named R.format name.now) self.now places.now) }
+        requires met { MeetsAt R.format (seen_edit R.becomes edit.now) self.now places.now }
         ensures { IfOk result (λ place. place ≡
             first_in (has_met R.format (seen_edit R.becomes edit.now ∷ []) self.now) self.now) }
     {
-        if self.is_of_single(alloc, edit)? {
-            return Ok(None);
-        }
-        let places = self.met_places(alloc, edit)?;
-        self.met_of(alloc, edit, places.as_slice())
-    }
-
-    // Whether the edit surely touches records of one name alone, which hasn't several.
-    fn is_of_single(&self, alloc: Global, edit: &Edit<R, R::Change>) -> Result<bool, AllocError>
-        ensures { IfOk result (λ single. single ≡ true →
-            first_in (has_met R.format (seen_edit R.becomes edit.now ∷ []) self.now) self.now
-            ≡ None) }
-    {
-        match touched_name::<R>(edit) {
-            Some(name) => Ok(!self.has_several(alloc, name)?),
-            None => Ok(false),
+        match name {
+            Some(name) if self.is_single(name, places) => Ok(None),
+            _ => self.met_of(alloc, edit, places),
         }
     }
 
-    // The places where such records may stand, from the first to the last.
-    fn met_places(&self, alloc: Global, edit: &Edit<R, R::Change>) -> Result<Vec<usize>, AllocError>
-        ensures { IfOk result (λ places.
-            MeetsAt R.format (seen_edit R.becomes edit.now) self.now places.items) }
+    // Whether the name hasn't several records, all of which stand in these places.
+    fn is_single(&self, name: &[u8], places: &[usize]) -> bool
+        requires { Reaches R.format (is_named R.format name.now) self.now places.now }
+        ensures { result ≡ true → nat_le 2
+            (count_named R.format name.now (records_of R.format (lines_now self.now))) ≡ false }
     {
-        let _ = &self.file;
-        match edit {
-            Edit::Become(change) => self.touched(alloc, change),
-            Edit::Put(item) => self.places_of(alloc, item.name()),
-            Edit::Add(_) => Ok(Vec::new(alloc)),
-            Edit::AddMissing(_) => Ok(Vec::new(alloc)),
-        }
+        !are_several_named::<R>(TextsThere::of(&self.file, places), name)
     }
 
     // The first of the places with one that this edit touches.
@@ -169,8 +181,27 @@ impl<'a, R: KeyedRecord + Drop> KeyedCells<'a, R> {
         touches(alloc, edit, text)
     }
 
-    // The name of the first such record, which stands in this place.
+    // The name of the first such record, which stands in this place, if there is one.
     fn name_met(
+        &self,
+        alloc: Global,
+        edits: &[Edit<R, R::Change>],
+        place: Option<usize>,
+    ) -> Result<Option<Bytes>, AllocError>
+        requires written { AreWritten R.format R.becomes edits.now }
+        requires first { first_in (has_met R.format (seen_edits R.becomes edits.now) self.now)
+            self.now ≡ place }
+        ensures { IfOk result (λ name. name ≡ multiple_by R.format R.becomes edits.now
+            (records_of R.format (lines_now self.now))) }
+    {
+        match place {
+            Some(place) => self.name_at(alloc, edits, place),
+            None => Ok(None),
+        }
+    }
+
+    // The same where there is one.
+    fn name_at(
         &self,
         alloc: Global,
         edits: &[Edit<R, R::Change>],
@@ -230,8 +261,8 @@ impl<'a, R: KeyedRecord + Drop> KeyedCells<'a, R> {
     }
 }
 
-// The name of all records that the edit may touch; none where it may touch others.
-fn touched_name<R: KeyedRecord>(edit: &Edit<R, R::Change>) -> Option<&[u8]>
+/// The name of all records that the edit may touch; none where it may touch others.
+pub(crate) fn touched_name<R: KeyedRecord>(edit: &Edit<R, R::Change>) -> Option<&[u8]>
     ensures { IfSome result (λ name.
         TouchesNamed R.format (seen_edit R.becomes edit.now) name.now) }
 {

@@ -1,12 +1,13 @@
 // A table that is carried from command to command, as the lines of its file (passwd(5), shadow(5),
 // group(5), gshadow(5), subuid(5), subgid(5)).
-ghost use Rattle.std.specs.Prelude.{◌≡◌, [], false, Some, filter, find, is_some, nat_le, unwrap_or, IfOk, OnOk};
+ghost use Rattle.std.specs.Prelude.{◌≡◌, ◌∷◌, [], false, Some, filter, find, is_some, nat_le, unwrap_or, IfOk, IfSome, OnOk};
 ghost use Rattle.acct_text.specs.Lines.{file_bytes, lines_of};
 ghost use Rattle.account_model.specs.Edits.{edited_by};
+ghost use Rattle.account_model.specs.Edits.Edit.{Become};
 ghost use Rattle.account_model.specs.Format.{count_named, find_named, has_named, is_named};
 ghost use Rattle.account_model.specs.Tables.{table_records};
 ghost use Rattle.line_edits.specs.SeenEdits.{seen_edits};
-ghost use Rattle.table.specs.TableEdits.{AreWritten, multiple_by, table_by};
+ghost use Rattle.table.specs.TableEdits.{AreEditedIn, AreWritten, multiple_by, table_by};
 
 use crate::keyed_cells::KeyedCells;
 use crate::keys::KeyedRecord;
@@ -17,6 +18,15 @@ use acct_text::Bytes;
 use line_edits::Edit;
 use std::alloc::{AllocError, Global};
 use std::marker::Model;
+
+/// What edits of a table meet, before they are made.
+#[derive(Drop)]
+pub struct Checked {
+    /// The name of the first record that they touch and whose name has several records.
+    pub multiple: Option<Bytes>,
+    /// The places of all lines that the only one of them changes, where such are told.
+    pub places: Vec<usize>,
+}
 
 /// A table of the records R: the lines of its file, of which each call takes a pass, until an index of them
 /// is asked for. Then look-ups and edits by name take no pass over the lines, nor do others that have a
@@ -174,23 +184,52 @@ impl<'a, R: KeyedRecord + Drop> Table<'a, R> {
         }
     }
 
-    /// The name of the first record that the edits touch and whose name has several records. For `MANY`
-    /// edits, and for one that may touch so many lines, the index is made. By an index it takes no pass
-    /// over the lines where each edit has a key.
-    pub fn first_multiple(
+    /// What the edits meet, before they are made. For `MANY` edits, and for one that may touch so many lines,
+    /// the index is made. By an index it takes no pass over the lines where each edit has a key.
+    pub fn check(
         &mut self,
         alloc: Global,
         edits: &[Edit<R, R::Change>],
-    ) -> Result<Option<Bytes>, AllocError>
+    ) -> Result<Checked, AllocError>
         requires { AreWritten R.format R.becomes edits.now }
-        ensures name { IfOk result (λ name. name ≡
+        ensures multiple { IfOk result (λ checked. checked.multiple ≡
             multiple_by R.format R.becomes edits.now (table_records R.format self.old)) }
+        ensures places { IfOk result (λ checked.
+            AreEditedIn R.format (seen_edits R.becomes edits.now) self.old checked.places.items) }
         ensures same { self.new ≡ self.old }
     {
         match &mut self.lines {
-            Some(cells) => cells.first_multiple(alloc, edits),
-            None => Ok(None),
+            Some(cells) => cells.check(alloc, edits),
+            None => Ok(Checked {
+                multiple: None,
+                places: Vec::new(alloc),
+            }),
         }
+    }
+
+    /// Carries the edits out as `edit` does, one change in these places alone, where such are told.
+    pub fn edit_at(
+        &mut self,
+        alloc: Global,
+        edits: &[Edit<R, R::Change>],
+        places: &[usize],
+    ) -> Result<bool, AllocError>
+        requires written { AreWritten R.format R.becomes edits.now }
+        requires places { AreEditedIn R.format (seen_edits R.becomes edits.now) self.old places.now }
+        ensures edited { OnOk result
+            (self.new ≡ table_by R.format R.becomes edits.now self.old) }
+        ensures same { IfOk result (λ differ. differ ≡ false → self.new ≡ self.old) }
+    {
+        let Some(change) = only_change::<R>(edits) else {
+            return self.edit(alloc, edits);
+        };
+        let Some(mut cells) = self.lines.take() else {
+            return Ok(false);
+        };
+        let differ = cells.change_at_told(alloc, change, places)?;
+        cells.renew(alloc)?;
+        self.lines = Some(cells);
+        Ok(differ)
     }
 
     /// Carries the edits out, in their order, and tells whether lines may differ then. By an index those
@@ -222,6 +261,17 @@ impl<'a, R: KeyedRecord + Drop> Table<'a, R> {
         }
         self.lines = Some(cells);
         Ok(differ)
+    }
+}
+
+// The change that is the only edit of a list.
+fn only_change<R: KeyedRecord>(edits: &[Edit<R, R::Change>]) -> Option<&R::Change>
+    ensures { IfSome result (λ change.
+        seen_edits R.becomes edits.now ≡ Become (R.becomes change.now) ∷ []) }
+{
+    match edits {
+        [Edit::Become(change)] => Some(change),
+        _ => None,
     }
 }
 

@@ -1,30 +1,40 @@
-use Rattle.std.proofs.Common.{ap, subst}
-use Rattle.std.specs.List.{AllByRecursion}
+use Rattle.std.proofs.Common.{subst, sym}
+use Rattle.std.specs.Prelude.{IfSome}
+use Rattle.std.proofs.lemmas.Result.{IfOk-weaker}
+use Rattle.account_model.specs.Format.{is_named}
 use Rattle.line_edits.specs.SeenEdits.{seen_edit}
-use Rattle.line_edits.specs.Touching.{touches_alone}
-use Rattle.acct_tables.specs.Cells.{ArePlaced}
-use Rattle.table.specs.TableCells.{IsSound}
-use Rattle.table.proofs.MetRecords.{added-meets}
+use Rattle.table.specs.Met.{TouchesNamed}
+use Rattle.table.specs.TableCells.{Reaches}
+use Rattle.table.proofs.SettledEdits.{named-edited, named-meets}
 use Rattle.table.proofs.keyed_cells.KeyedCells.met_places.Goals as goal
 
--- one that is added touches no record
-pub returns-in-Add : goal.returns-in-Add
-returns-in-Add g c =
+-- the records of the one name are all that it touches
+pub returns-in-Some-clause-met : goal.returns-in-Some-clause-met
+returns-in-Some-clause-met g c =
     let format = g.R.TableRecord.format in
-    let becomes = g.R.EditedRecord.becomes in
-    added-meets format c.args.self.now c.new.result.items (seen_edit becomes c.args.edit.now)
-    (λ r. ap (λ edit. touches_alone format (seen_edit becomes edit) r) c.in-Add.is)
-    c.new.ensures.items
-    (subst (AllByRecursion IsSound) c.self.view_is c.self.invariant.sound)
-    (subst ArePlaced c.self.view_is c.self.invariant.placed)
+    let edit = seen_edit g.R.EditedRecord.becomes c.args.edit.now in
+    IfOk-weaker c.places_of.result _ _ (λ places reached.
+    named-meets format edit c.in-Some.name.now c.args.self.now places.items
+    g.met.R.TableRecord.is_line_format.same
+    (subst (λ name. IfSome name (λ name. TouchesNamed format edit name.now)) c.in-Some.is c.requires)
+    reached)
+    c.places_of.ensures
 
-pub returns-in-AddMissing : goal.returns-in-AddMissing
-returns-in-AddMissing g c =
+pub returns-in-Some-clause-named : goal.returns-in-Some-clause-named
+returns-in-Some-clause-named g c =
     let format = g.R.TableRecord.format in
-    let becomes = g.R.EditedRecord.becomes in
-    added-meets format c.args.self.now c.new-in-AddMissing.result.items
-    (seen_edit becomes c.args.edit.now)
-    (λ r. ap (λ edit. touches_alone format (seen_edit becomes edit) r) c.in-AddMissing.is)
-    c.new-in-AddMissing.ensures.items
-    (subst (AllByRecursion IsSound) c.self.view_is c.self.invariant.sound)
-    (subst ArePlaced c.self.view_is c.self.invariant.placed)
+    IfOk-weaker c.places_of.result _ _ (λ places reached.
+    subst (λ name. IfSome name (λ name.
+    Reaches format (is_named format name.now) c.args.self.now places.items)) (sym c.in-Some.is)
+    reached)
+    c.places_of.ensures
+
+pub returns-in-Some-clause-edited : goal.returns-in-Some-clause-edited
+returns-in-Some-clause-edited g c =
+    let format = g.R.TableRecord.format in
+    let edit = seen_edit g.R.EditedRecord.becomes c.args.edit.now in
+    IfOk-weaker c.places_of.result _ _ (λ places reached.
+    named-edited format edit c.in-Some.name.now c.args.self.now places.items
+    (subst (λ name. IfSome name (λ name. TouchesNamed format edit name.now)) c.in-Some.is c.requires)
+    reached)
+    c.places_of.ensures
