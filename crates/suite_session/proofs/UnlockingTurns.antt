@@ -120,7 +120,8 @@ module _ (before now : Moment) (runner : Runner) (answer : FinalAnswer) where
         (λ one. Keeps one KnowsAnything) (Ok kept) →
         Turns before now runner (Unlocking keeper answer) (Unlocking kept answer)
     lowers number kept called takes =
-        let is = leads-on (cleaned_once keeper) as_it_came takes.call.answer kept takes.call.shown in
+        let is = leads-on (cleaned_once keeper) as_it_came takes.call.answer kept
+        takes.call.shown in
         out-turn (Keeps keeper KnowsAnything) keeper.number (kept-number keeper) stood.stands
         keeper.token stood.same stood.clean stood.quiet stood.gives (removes (Lock number)) tt tt
         (λ given one met shows. shows) (λ result one. refl) (cleaned_once keeper) kept
@@ -143,7 +144,8 @@ module _ (before now : Moment) (runner : Runner) (answer : FinalAnswer) where
         HasStagedFree (Ok freeing) →
         Turns before now runner (Unlocking keeper answer) (Freeing freeing answer)
     stages freeing called takes =
-        let is = leads-on (freeing_of keeper) as_it_came takes.call.answer freeing takes.call.shown in
+        let is = leads-on (freeing_of keeper) as_it_came takes.call.answer freeing
+        takes.call.shown in
         out-turn (Keeps keeper KnowsAnything) keeper.number (kept-number keeper) stood.stands
         keeper.token stood.same stood.clean stood.quiet stood.gives (writes FreeStage free_text)
         (free-due runner commit keeper) tt (λ given one met shows. shows) (λ result one. refl)

@@ -1,5 +1,5 @@
 -- Claims: each call of a keeper that backs up, and of one that installs, leads to where its walk comes to
--- (`backs-turn`, `installs-turn`), or to the answer of its fault (`walk-faults`).
+-- (`backs-turn`, `installs-turn`), or to the answer of its fault (`backs-ended`, `installs-ended`).
 -- Way: what such a turn owes for its call and the state that it leads to (`StepsTo`) is found by what is
 -- left of the walk (`Ahead`): its end, a piece of the table at its place, or a step with that.
 use Rattle.std.proofs.Common.{◌≡◌, inl, inr, refl, sym, ap, subst, ◌∙◌, ◌<◌, ◌+◌, ℕ, Bool, true, false, if◌then◌else◌, Option, Some, Result, Ok, Err, arith}
@@ -118,7 +118,8 @@ module _ (before now : Moment) (runner : Runner) (commit : CommitStage) (Held : 
       leads-faults before now runner commit Held stands token same (state_call old) to.of_turn _
       to.quiet takes.call next fault takes.call.shown takes.lawful takes.faults.never_falls old new
       refl (λ met is. absurd (met_none met is)) told
-      (λ is. takes.faults.failed (let met : Err fault ≡ Err (at_stage commit Failed) = ap Err is in met))
+      (λ is. takes.faults.failed
+      (let met : Err fault ≡ Err (at_stage commit Failed) = ap Err is in met))
 
 -- ---- What is left of a walk
 
@@ -197,14 +198,16 @@ module _ (runner : Runner) (answer : FinalAnswer) (walker : Walker) where
                 tt refl;
             fewer = intended-calls walker answer none (no-piece walker _ none);
           })
-      by (at_piece next is_next some left) = leads (backs_up_more walker next) (More (append_on walker))
+      by (at_piece next is_next some left) = leads (backs_up_more walker next)
+          (More (append_on walker))
           (backs-on walker next is_next left) (walked-more walker _ _ some left) (record {
             of_turn = backs-more-due runner answer walker next is_next of_change left;
             quiet = λ result one. refl;
             shows_none = λ given one met shows. shows;
             stages = walked-staged walker next is_next (append_on walker)
                 (some-staged (walker.staged + 1) (omega arith)) refl (λ new. BackupStage);
-            looks = few-less (BackingUp walker answer) (BackingUp (append_on walker) answer) tt refl;
+            looks = few-less (BackingUp walker answer) (BackingUp (append_on walker) answer) tt
+                refl;
             fewer = backed-more walker answer next is_next left;
           })
       by (at_step next is_next some whole true staged) = leads (moves_backup_of next)
@@ -266,14 +269,14 @@ module _ (runner : Runner) (answer : FinalAnswer) (walker : Walker) where
     backs-turn reached takes =
         let is = leads-on (backed_on walker) before_commit takes.call.answer reached
         takes.call.shown in
-        let to = subst (λ (one : Walked Walker Stager). StepsTo (Runs runner Before (BacksUp walker))
-        (BackingUp walker answer) (backed_state one) (backing_call walker)) (sym is)
+        let to = subst (λ (one : Walked Walker Stager).
+        StepsTo (Runs runner Before (BacksUp walker)) (BackingUp walker answer) (backed_state one) (backing_call walker)) (sym is)
         (backs-to stood.of_change) in
         let same = ap backed_change is ∙ walked-keeps walker (backup_pieces walker)
         (begun_of walker.change) backed_change walker.change refl refl (step-change walker) in
         record {
-          turns = step-turns before now runner Before (BacksUp walker) stood.stands (token_of walker)
-              stood.same (BackingUp walker answer) (λ met none. none) (backed_on walker)
+          turns = step-turns before now runner Before (BacksUp walker) stood.stands
+              (token_of walker) stood.same (BackingUp walker answer) (λ met none. none) (backed_on walker)
               (HoldsWalked BacksUp HasStagedIntent) reached (backed_state reached) takes to
               (backed-stands reached same (goes-on before now runner Before (BacksUp walker)
               stood.stands (token_of walker) stood.same (backing_call walker) to.of_turn _ to.quiet
@@ -328,7 +331,8 @@ module _ (runner : Runner) (answer : FinalAnswer) (walker : Walker) where
                 (Unlocking walker.change.inputs.keeper answer) tt refl;
             fewer = cleared-calls walker answer (no-piece walker _ none) none;
           })
-      by (at_piece next is_next some left) = leads (installs_more walker next) (More (append_on walker))
+      by (at_piece next is_next some left) = leads (installs_more walker next)
+          (More (append_on walker))
           (adds-on walker next is_next left) (walked-more walker _ _ some left) (record {
             of_turn = installs-more-due runner walker next is_next left;
             quiet = λ result one. refl;
@@ -339,17 +343,20 @@ module _ (runner : Runner) (answer : FinalAnswer) (walker : Walker) where
                 refl;
             fewer = installed-more walker answer next is_next left;
           })
-      by (at_step next is_next some whole true staged) = leads (installs next) (More (step_on walker))
+      by (at_step next is_next some whole true staged) = leads (installs next)
+          (More (step_on walker))
           (installs-some walker next is_next whole ∙ install-staged walker next staged)
           (walked-step walker _ _ some whole) (record {
             of_turn = tt;
             quiet = λ result one. refl;
             shows_none = λ given one met shows. shows;
             stages = tt;
-            looks = few-less (Installing walker answer) (Installing (step_on walker) answer) tt refl;
+            looks = few-less (Installing walker answer) (Installing (step_on walker) answer) tt
+                refl;
             fewer = installed-calls walker answer next is_next some whole;
           })
-      by (at_step next is_next some whole false unstaged) = leads (stages next) (More (step_on walker))
+      by (at_step next is_next some whole false unstaged) = leads (stages next)
+          (More (step_on walker))
           (installs-some walker next is_next whole ∙ install-unstaged walker next unstaged)
           (walked-step walker _ _ some whole) (record {
             of_turn = installs-due runner walker next is_next;
@@ -358,7 +365,8 @@ module _ (runner : Runner) (answer : FinalAnswer) (walker : Walker) where
             stages = let first = step-unstaged walker unstaged in
                 walked-staged walker next is_next (step_on walker) (ap has_staged first)
                 (ap next_table first) (λ new. Staged new.table);
-            looks = few-less (Installing walker answer) (Installing (step_on walker) answer) tt refl;
+            looks = few-less (Installing walker answer) (Installing (step_on walker) answer) tt
+                refl;
             fewer = installed-calls walker answer next is_next some whole;
           })
 

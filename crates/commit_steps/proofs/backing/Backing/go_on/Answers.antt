@@ -49,8 +49,8 @@ returns g c =
     appended (c.token-token.ensures ∙ ap (λ (change : Change). change.inputs.keeper.token)
     (c.prepared.ensures ∙ ap (λ (one : Walker). one.change) c.self.view_is))
     (record { told = called.told; noted = called.noted })) in
-    walks-on (backs_up_more walker next) _ on _ before_commit BacksUp HasStagedIntent walker before now
-    c.leads.result (backs-on walker next there.1 some)
+    walks-on (backs_up_more walker next) _ on _ before_commit BacksUp HasStagedIntent walker
+    before now c.leads.result (backs-on walker next there.1 some)
     (walked-more walker _ (begun_of walker.change) more some)
     (takes-step (backs_up_more walker next) tt (BacksUp walker)
     (HoldsWalked BacksUp HasStagedIntent) on

@@ -41,8 +41,8 @@ returns g c =
     ReadsIntent (intent_text (intended change)) (intended change)) change
     c.intent_piece-piece.ensures.reads in
     let on : Walked Walker Stager = Done (begun_of walker.change) in
-    let shown = leads-as before_commit written c.leads.result (c.of.ensures ∙ ap begun_of change) Done
-    c.leads.ensures.shown in
+    let shown = leads-as before_commit written c.leads.result
+    (c.of.ensures ∙ ap begun_of change) Done c.leads.ensures.shown in
     let tells = subst (λ (bytes : Bytes).
     Called before now (token_of walker) (writes IntentStage bytes) written) piece
     (called-of before now _ (token_of walker)
