@@ -43,6 +43,7 @@ pub trait KeyedRecord: EditedRecord {
 }
 
 impl KeyedRecord for PasswdRecord {
+    ghost use Rattle.std.specs.Prelude.{[], ◌∷◌};
     ghost use Rattle.table.specs.Keys.{first-has, own_key, user_brought, user_keys};
 
     ghost keys = { user_keys };
@@ -79,7 +80,7 @@ impl KeyedRecord for PasswdRecord {
         }
     }
 
-    ghost own = { λ user. first-has (own_key user.name) _ };
+    ghost own = { λ user. first-has (own_key user.name) (user.gid ∷ []) };
 }
 
 // Notes the name and the GID there that the act gives.
@@ -99,6 +100,7 @@ fn bring_to_user(act: &PasswdAct, spot: Spot, index: &mut KeyPlaces)
 }
 
 impl KeyedRecord for ShadowRecord {
+    ghost use Rattle.std.specs.Prelude.{[]};
     ghost use Rattle.table.specs.Keys.{first-has, own_key, shadow_brought, shadow_keys};
 
     ghost keys = { shadow_keys };
@@ -127,10 +129,11 @@ impl KeyedRecord for ShadowRecord {
         }
     }
 
-    ghost own = { λ user. first-has (own_key user.name) _ };
+    ghost own = { λ user. first-has (own_key user.name) [] };
 }
 
 impl KeyedRecord for SubidRecord {
+    ghost use Rattle.std.specs.Prelude.{[]};
     ghost use Rattle.table.specs.Keys.{first-has, own_key, subid_brought, subid_keys};
 
     ghost keys = { subid_keys };
@@ -161,5 +164,5 @@ impl KeyedRecord for SubidRecord {
         }
     }
 
-    ghost own = { λ range. first-has (own_key range.owner) _ };
+    ghost own = { λ range. first-has (own_key range.owner) [] };
 }
