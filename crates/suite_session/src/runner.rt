@@ -137,9 +137,10 @@ pub fn faulty_line(
     requires { length input.now ≤ table_limit }
     ensures { IfOk result (FindsFaulty tool input.now) }
 {
-    match tool {
-        Tool::Batch => first_faulty(alloc, input),
-        _ => Ok(None),
+    if tool.row().input.has_commands() {
+        first_faulty(alloc, input)
+    } else {
+        Ok(None)
     }
 }
 
