@@ -1,6 +1,7 @@
 // Which of the six tables edits may have changed (passwd(5), shadow(5), group(5), gshadow(5), subuid(5),
 // subgid(5)).
-ghost use Rattle.std.specs.Prelude.{◌≡◌};
+ghost use Rattle.std.specs.Prelude.{◌≡◌, ◌||◌};
+ghost use Rattle.acct_text.specs.declared.Tab.{Tab};
 ghost use Rattle.carried_tables.specs.Changes.{is_touched};
 
 use acct_text::Tab;
@@ -23,15 +24,30 @@ pub struct TouchedTables {
 }
 
 impl TouchedTables {
-    /// All of them.
-    pub const ALL: Self = TouchedTables {
-        passwd: true,
-        shadow: true,
-        group: true,
-        gshadow: true,
-        subuid: true,
-        subgid: true,
+    /// None of them.
+    pub const NONE: Self = TouchedTables {
+        passwd: false,
+        shadow: false,
+        group: false,
+        gshadow: false,
+        subuid: false,
+        subgid: false,
     };
+
+    /// These, and the others.
+    pub fn joined(self, others: Self) -> Self
+        ensures { (table : Tab) → is_touched result table
+            ≡ (is_touched self table || is_touched others table) }
+    {
+        TouchedTables {
+            passwd: self.passwd | others.passwd,
+            shadow: self.shadow | others.shadow,
+            group: self.group | others.group,
+            gshadow: self.gshadow | others.gshadow,
+            subuid: self.subuid | others.subuid,
+            subgid: self.subgid | others.subgid,
+        }
+    }
 
     /// Whether the table may differ.
     pub(crate) fn has(self, table: Tab) -> bool

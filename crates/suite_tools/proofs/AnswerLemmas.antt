@@ -16,6 +16,7 @@ use Rattle.login_defs.specs.declared.defs.Defs.{Defs}
 use Rattle.login_defs.specs.Held.{HasSettings}
 use Rattle.carried_tables.specs.declared.script.Script.{Script}
 use Rattle.suite_tools.specs.Carrying.{AnswersUnder, IsCarriedOut, IsOfAction}
+use Rattle.suite_tools.specs.declared.carry.Carried.{Carried}
 use Rattle.suite_tools.specs.declared.answer.Answered.{Answered}
 use Rattle.suite_tools.specs.declared.answer.Answered.TheVariants.{Edits}
 
@@ -37,11 +38,11 @@ of-action defs day request files tables seen answered script output settings hol
 -- a fault is told as it came
 pub fault-told :
     (tool : Tool) (outcome : Result Made Refusal) (old new : Files) (fault : ToolFault)
-    (result : Result Output ToolFault)
+    (result : Result Carried ToolFault)
     → IsErr result
     → IsErrAnd result (λ found. found ≡ fault)
     → IsCarriedOut tool outcome old new (Err fault)
     → IsCarriedOut tool outcome old new result
-fault-told tool outcome old new fault (Ok output) is_err same told = absurd (cc is_err)
+fault-told tool outcome old new fault (Ok carried) is_err same told = absurd (cc is_err)
 fault-told tool outcome old new fault (Err found) is_err same told =
     subst (λ (one : ToolFault). IsCarriedOut tool outcome old new (Err one)) (sym same) told

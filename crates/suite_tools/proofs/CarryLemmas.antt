@@ -1,9 +1,10 @@
 -- Claims: where the script of an action is carried out, the action comes to what its edits make
 -- (`outcome-made`), with what its tool prints (`written-made`); where it is refused, so is the action
--- (`fault-carried`). And each table stands where it stood (`made-stands`).
-use Rattle.std.proofs.Common.{◌≡◌, ◌∙◌, true, ap, refl, subst, sym}
+-- (`fault-carried`). Each table stands where it stood (`made-stands`), and those that no edits touch stay
+-- (`both-stay`).
+use Rattle.std.proofs.Common.{◌≡◌, ◌∙◌, ◌||◌, Bool, true, false, ap, refl, subst, sym}
 use Rattle.std.specs.Prelude.{Option, Some, None, Ok, Err, is_some}
-use Rattle.acct_text.specs.declared.Tab.TheVariants.{Passwd, Shadow, Group, Gshadow, Subuid, Subgid}
+use Rattle.acct_text.specs.declared.Tab.{Tab}
 use Rattle.acct_text.specs.declared.files.Files.{Files}
 use Rattle.acct_text.specs.Files.{table_of}
 use Rattle.account_model.specs.declared.refusal.Refusal.{Refusal}
@@ -15,9 +16,10 @@ use Rattle.account_model.proofs.DeedLaws.{files-stand}
 use Rattle.tool_answers.specs.declared.decision.Output.{Output}
 use Rattle.tool_answers.specs.declared.tool_fault.ToolFault.{ToolFault}
 use Rattle.tool_answers.specs.declared.tool_fault.ToolFault.TheVariants.{Refused, Memory}
-use Rattle.carried_tables.specs.Changes.{UneditedStay, StandWhere}
+use Rattle.carried_tables.specs.Changes.{UneditedStay, StandWhere, is_touched}
 use Rattle.carried_tables.specs.Scripts.{CarriesOut, seen_script}
 use Rattle.carried_tables.specs.declared.script.Script.{Script}
+use Rattle.carried_tables.specs.declared.touched_tables.TouchedTables.{TouchedTables}
 use Rattle.suite_tools.specs.Carrying.{IsCarriedOut, IsOfAction, written_with}
 
 -- what a script makes has each table where it stood
@@ -28,23 +30,21 @@ pub made-stands :
 made-stands script old new made table =
     ap (λ (files : Files). is_some (table_of files table)) made ∙ files-stand script old table
 
--- where all may be edited, nothing is said of any
-pub all-touched :
-    (first last : Files)
-    → UneditedStay (record {
-      passwd = true;
-      shadow = true;
-      group = true;
-      gshadow = true;
-      subuid = true;
-      subgid = true;
-    }) first last
-all-touched first last Passwd none = absurd cc
-all-touched first last Shadow none = absurd cc
-all-touched first last Group none = absurd cc
-all-touched first last Gshadow none = absurd cc
-all-touched first last Subuid none = absurd cc
-all-touched first last Subgid none = absurd cc
+-- of two tests that neither passes, each fails
+neither : (one other : Bool) → (one || other) ≡ false → (one ≡ false) × (other ≡ false)
+neither true other none = absurd cc
+neither false other none = (refl, none)
+
+-- a table that edits don't touch, and others behind them don't, stays behind both
+pub both-stay :
+    (before behind both : TouchedTables) (first old new : Files)
+    → ((table : Tab) → is_touched both table ≡ (is_touched before table || is_touched behind table))
+    → UneditedStay before first old
+    → UneditedStay behind old new
+    → UneditedStay both first new
+both-stay before behind both first old new are stays_before stays table none =
+    let parts = neither (is_touched before table) (is_touched behind table) (sym (are table) ∙ none) in
+    stays table parts.1 ∙ stays_before table parts.0
 
 module _ (tool : Tool) (action : Action) (script : Script) (output : Output) (old : Files)
     (is : IsOfAction tool script output action) where

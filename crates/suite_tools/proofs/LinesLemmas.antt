@@ -13,8 +13,8 @@ use Rattle.account_model.specs.Change.{action_of}
 use Rattle.account_model.specs.Request.{Request}
 use Rattle.account_model.specs.Batch.{LineRefusal, Written, batch, before_others, line_outcome, outcome_ensured, with_rest, written_by}
 use Rattle.account_model.specs.Messages.{messages}
-use Rattle.tool_answers.specs.declared.decision.Output.{Output}
 use Rattle.suite_tools.specs.Carrying.{IsCarriedOut}
+use Rattle.suite_tools.specs.declared.carry.Carried.{Carried}
 use Rattle.suite_tools.specs.Writing.{IsWrittenBehind, with_made, with_output}
 
 -- ---- One line
@@ -23,21 +23,21 @@ use Rattle.suite_tools.specs.Writing.{IsWrittenBehind, with_made, with_output}
 -- done are passed by or not
 pub carried-behind :
     (ensuring : Bool) (request : Request) (day : ℕ) (settings : List Setting) (files : Files)
-    (output : Output) (old new : Written)
+    (carried : Carried) (old new : Written)
     → IsCarriedOut request.tool
-    (outcome_of (action_of request [] day old.files settings) old.files) old.files files (Ok output)
-    → new ≡ with_output output (record old { files = files })
+    (outcome_of (action_of request [] day old.files settings) old.files) old.files files (Ok carried)
+    → new ≡ with_output carried.output (record old { files = files })
     → IsWrittenBehind request.tool old new None
     (line_outcome ensuring request day settings old.files)
-carried-behind ensuring request day settings files output old new carried is =
-    by (outcome_of (action_of request [] day old.files settings) old.files) carried
+carried-behind ensuring request day settings files carried old new made is =
+    by (outcome_of (action_of request [] day old.files settings) old.files) made
   where
     by :
         (outcome : Result Made Refusal)
-        → IsCarriedOut request.tool outcome old.files files (Ok output)
+        → IsCarriedOut request.tool outcome old.files files (Ok carried)
         → IsWrittenBehind request.tool old new None
         (outcome_ensured ensuring request.tool old.files outcome)
-    by (Err refusal) left = absurd left
+    by (Err refusal) left = absurd left.0
     by (Ok made) left = (
       refl,
       is
@@ -45,7 +45,7 @@ carried-behind ensuring request day settings files output old new carried is =
             files = one.files;
             output = old.output ++ one.output;
             error = old.error ++ one.error;
-          }) (sym left),
+          }) (sym left.0),
     )
 
 -- ---- The lines of a batch

@@ -20,7 +20,9 @@ use Rattle.tool_answers.specs.declared.tool_fault.ToolFault.TheVariants.{Refused
 use Rattle.login_defs.specs.declared.defs.Defs.{Defs}
 use Rattle.login_defs.specs.Held.{HasSettings}
 use Rattle.table_edits.specs.Acting.{IsOutputOf, IsScriptOf}
+use Rattle.carried_tables.specs.Changes.{UneditedStay}
 use Rattle.carried_tables.specs.declared.script.Script.{Script}
+use Rattle.suite_tools.specs.declared.carry.Carried.{Carried}
 use Rattle.suite_tools.specs.declared.answer.Answered.{Answered}
 use Rattle.suite_tools.specs.declared.answer.Answered.TheVariants.{Edits, Decides as DecidesAlone, Lines}
 
@@ -69,19 +71,21 @@ written_with files output = record {
   error = output.err;
 }
 
--- by the outcome of its tool a command is carried out, or refuses and leaves the files as they were;
+-- by the outcome of its tool a command is carried out, and leaves each table but those that it touches,
+-- or it refuses and leaves the files as they were;
 -- want of memory may come anywhere
 abbrev pub IsCarriedOut :
-    Tool → Result Made Refusal → Files → Files → Result Output ToolFault → Type 0
-IsCarriedOut tool outcome old new (Ok output) =
-    IsOkAnd outcome (λ made. written_by tool made ≡ written_with new output)
+    Tool → Result Made Refusal → Files → Files → Result Carried ToolFault → Type 0
+IsCarriedOut tool outcome old new (Ok carried) =
+    IsOkAnd outcome (λ made. written_by tool made ≡ written_with new carried.output)
+    × UneditedStay carried.touched old new
 IsCarriedOut tool outcome old new (Err (Refused refusal)) =
     (outcome ≡ Err refusal) × (new ≡ old)
 IsCarriedOut tool outcome old new (Err Memory) = ⊤
 
 -- the tool carries out the request on these files, whichever settings the values are those of
 abbrev pub CarriesUnder :
-    Defs → ℕ → Request → List ℕ → Files → Files → Result Output ToolFault → Type 0
+    Defs → ℕ → Request → List ℕ → Files → Files → Result Carried ToolFault → Type 0
 CarriesUnder defs day request input old new result =
     (settings : List Setting) → HasSettings defs settings → IsCarriedOut request.tool
     (outcome_of (action_of request input day old settings) old) old new result

@@ -6,6 +6,16 @@ use Rattle.account_model.specs.Action.{Made}
 use Rattle.account_model.specs.Batch.{Written}
 use Rattle.tool_answers.specs.Decisions.{made_output}
 use Rattle.tool_answers.specs.declared.decision.Output.{Output}
+use Rattle.suite_tools.specs.declared.written.Written as declared
+
+-- the written that stands for one as data
+abbrev pub seen_written : declared.Written → Written
+seen_written written = record {
+  files = written.tables;
+  status = 0;
+  output = written.out;
+  error = written.err;
+}
 
 -- this is printed behind it, and the files are the same
 abbrev pub with_output : Output → Written → Written

@@ -1,13 +1,13 @@
 // What the lines of a batch have written so far.
-ghost use Rattle.std.specs.Prelude.{◌≡◌, ◌≤◌, List, true, IfOk, OnOk};
+ghost use Rattle.std.specs.Prelude.{◌≡◌, ◌≤◌, ◌++◌, List, true, IfOk, OnOk};
 ghost use Rattle.acct_text.specs.Limits.{last_day};
 ghost use Rattle.account_model.specs.Batch.{is_done, line_outcome, nothing_on};
 ghost use Rattle.account_model.specs.Settings.{Setting};
 ghost use Rattle.account_model.specs.Words.{is_for_lines};
 ghost use Rattle.login_defs.specs.Held.{HasSettings, IsHeld};
 ghost use Rattle.tool_answers.specs.Decisions.{written_decision};
-ghost use Rattle.carried_tables.specs.Changes.{StandWhere};
-ghost use Rattle.suite_tools.specs.Writing.{IsWrittenBehind, with_output};
+ghost use Rattle.carried_tables.specs.Changes.{StandWhere, UneditedStay};
+ghost use Rattle.suite_tools.specs.Writing.{IsWrittenBehind, seen_written};
 
 use crate::carry::carry_out;
 use crate::change::decide_change;
@@ -18,40 +18,29 @@ use command_values::Asked;
 use login_defs::Defs;
 use option_words::LineRequest;
 use std::alloc::{AllocError, Global};
-use std::marker::Model;
 use tool_answers::{Decision, Output, ToolFault};
 
 // The status of a batch whose lines are all carried out, whatever theirs are.
 const CARRIED_OUT: u8 = 0;
 
-/// The tables that the lines so far leave, carried from line to line, and what these lines print.
+/// The tables that the lines so far leave, carried from line to line, with those that may differ from the
+/// first, and what these lines print.
 #[derive(Drop)]
 pub(crate) struct Written<'a> {
     tables: CarriedTables<'a>,
+    touched: TouchedTables,
     out: Bytes,
     err: Bytes,
-}
-
-impl<'a> Model for Written<'a> {
-    ghost use Rattle.account_model.specs.Batch.{Written as Left};
-
-    ghost Value = { Left };
-
-    ghost view = { λ written. record {
-      files = written.tables;
-      status = 0;
-      output = written.out;
-      error = written.err;
-    } };
 }
 
 impl<'a> Written<'a> {
     /// What no lines leave of these tables.
     pub(crate) fn nothing(alloc: Global, tables: CarriedTables<'a>) -> Self
-        ensures { result ≡ nothing_on tables.entry }
+        ensures { seen_written result ≡ nothing_on tables.entry }
     {
         Written {
             tables,
+            touched: TouchedTables::NONE,
             out: Bytes::new(alloc),
             err: Bytes::new(alloc),
         }
@@ -75,14 +64,18 @@ impl<'a> Written<'a> {
         requires held { IsHeld defs.now }
         requires in_time { day ≤ last_day }
         requires for_lines { is_for_lines line.now.request.tool ≡ true }
-        ensures { IfOk result (λ refusal. (settings : List Setting) → HasSettings defs.now settings
-            → IsWrittenBehind line.now.request.tool self.old self.new refusal
-            (line_outcome ensuring line.now.request day settings self.old.files)) }
+        requires left { UneditedStay self.old.touched files.now self.old.tables }
+        ensures written { IfOk result (λ refusal.
+            (settings : List Setting) → HasSettings defs.now settings
+            → IsWrittenBehind line.now.request.tool (seen_written self.old) (seen_written self.new)
+            refusal (line_outcome ensuring line.now.request day settings self.old.tables)) }
+        ensures left { OnOk result (UneditedStay self.new.touched files.now self.new.tables) }
     {
         let asked = &Asked::of(&line.parsed);
         match carry_out(alloc, asked, files, &mut self.tables, defs, day) {
-            Ok(output) => {
-                self.print(&output)?;
+            Ok(carried) => {
+                self.touched = self.touched.joined(carried.touched);
+                self.print(&carried.output)?;
                 Ok(None)
             }
             Err(ToolFault::Refused(refusal)) if ensuring && is_done(line.parsed.tool, &refusal) => {
@@ -95,7 +88,10 @@ impl<'a> Written<'a> {
 
     // Prints what a line prints, behind the others. At `AllocError` a part of it may be there.
     fn print(&mut self, output: &Output) -> Result<(), AllocError>
-        ensures { OnOk result (self.new ≡ with_output output.now self.old) }
+        ensures { OnOk result (self.new ≡ record self.old {
+          out = self.old.out ++ output.now.out;
+          err = self.old.err ++ output.now.err;
+        }) }
     {
         self.out.push(output.out.as_slice())?;
         self.err.push(output.err.as_slice())
@@ -104,13 +100,20 @@ impl<'a> Written<'a> {
     /// What is decided where no line follows: the tables that differ from the first files get their
     /// bytes.
     pub(crate) fn decision(self, alloc: Global, first: &Files) -> Result<Decision, AllocError>
-        requires { StandWhere first.now self.files }
-        ensures { IfOk result (λ decision. decision ≡ written_decision first.now self.entry) }
+        requires stand { StandWhere first.now self.tables }
+        requires left { UneditedStay self.touched first.now self.tables }
+        ensures { IfOk result (λ decision.
+            decision ≡ written_decision first.now (seen_written self.entry)) }
     {
-        let Written { tables, out, err } = self;
+        let Written {
+            tables,
+            touched,
+            out,
+            err,
+        } = self;
         let status = CARRIED_OUT;
         let output = Output { status, out, err };
-        decide_change(alloc, first, tables, TouchedTables::ALL, output)
+        decide_change(alloc, first, tables, touched, output)
     }
 }
 
