@@ -35,6 +35,7 @@
 mod clock;
 mod disk;
 mod files;
+mod names;
 mod player;
 mod session;
 mod streams;

@@ -2,10 +2,11 @@
 ghost use Rattle.acct_outside.specs.Contract.{IsName};
 
 use crate::disk::{Disk, Lack};
+use crate::names::name_of;
 use crate::texts::{bytes_of, cut, push_answer, push_line, push_number, push_text};
 use acct_outside::{Created, Folder, FolderFault, Found, Name, Token, Verdict};
 use acct_text::{Bytes, push_decimal, read_decimal};
-use real_folder::{RealFolder, name_of};
+use real_folder::RealFolder;
 use std::alloc::{AllocError, Global};
 use std::fs::File;
 use std::rt::{Clock, Files};

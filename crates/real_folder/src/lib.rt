@@ -22,5 +22,4 @@ mod verdict;
 pub use clock::RealClock;
 pub use faults::SystemError;
 pub use folder::RealFolder;
-pub use names::name_of;
 pub use streams::{RealSink, RealSource};

@@ -1,7 +1,7 @@
-// Which file of DIR/etc stands for which name, and which name for which file.
+// Which file of DIR/etc stands for which name.
 ghost use Rattle.std.specs.Prelude.{◌≡◌, ◌++◌, nat_eq, IfOk, IfSome, string_bytes, codes, decimal};
 ghost use Rattle.std.specs.List.{starts_with};
-ghost use Rattle.acct_outside.specs.Contract.{IsLockNumber, IsName};
+ghost use Rattle.acct_outside.specs.Contract.{IsLockNumber};
 ghost use Rattle.acct_outside.specs.Names.{file_name};
 ghost use Rattle.real_folder.specs.Paths.{etc_by, path_at, path_in, own_front, own_name, shadow_lock, FindsLock};
 
@@ -103,36 +103,4 @@ fn number_in(digits: &[u8]) -> Option<u64>
         return None;
     }
     read_decimal(digits, GREATEST_LOCK).ok()
-}
-
-/// The name whose file this is, where it has one.
-pub fn name_of(file: &[u8]) -> Option<Name>
-    ensures { IfSome result IsName }
-{
-    match file {
-        b"accounts.intent" => Some(Name::Intent),
-        b"accounts.intent+" => Some(Name::IntentStage),
-        b"accounts.backup+" => Some(Name::BackupStage),
-        b"accounts.free+" => Some(Name::FreeStage),
-        b"login.defs" => Some(Name::Defs),
-        _ => match file.strip_prefix(b"accounts.lock.") {
-            Some(digits) => Some(Name::Lock(number_in(digits)?)),
-            None => table_name(file),
-        },
-    }
-}
-
-// The name of a table, its backup or what is staged for it.
-fn table_name(file: &[u8]) -> Option<Name>
-    ensures { IfSome result IsName }
-{
-    for table in &Tab::all() {
-        match file.strip_prefix(table.name().as_bytes()) {
-            Some(b"") => return Some(Name::Table(*table)),
-            Some(b"-") => return Some(Name::Backup(*table)),
-            Some(b"+") => return Some(Name::Staged(*table)),
-            _ => {}
-        }
-    }
-    None
 }

@@ -1,5 +1,5 @@
 // The commands beside the next one, and the steps that all of them take.
-use crate::counts::counted;
+use crate::names::counted;
 use acct_text::{Bytes, read_decimal};
 use memory_folder::{Effect, MemoryFolder};
 use side_by_side::Step;

@@ -34,7 +34,7 @@
 #![tactic(auto)]
 
 mod beside;
-mod counts;
+mod names;
 mod player;
 mod scene;
 mod shown;

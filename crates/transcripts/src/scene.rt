@@ -3,12 +3,11 @@ ghost use Rattle.std.specs.Prelude.{All, IfOk};
 ghost use Rattle.acct_outside.specs.Contract.{IsName};
 
 use crate::beside::{Beside, effect_of};
-use crate::counts::counted;
+use crate::names::{counted, name_of};
 use crate::shown::{push_repeated, show_in};
 use acct_outside::Token;
 use acct_text::Bytes;
 use memory_folder::{MemoryFolder, Mishap};
-use real_folder::name_of;
 use std::alloc::{AllocError, Global};
 use std::mem;
 use whole_commands::{Contents, Failing, IMAGE, Streams, die_after, put};

@@ -1,9 +1,9 @@
 // What a transcript shows of a folder: the names that stand in it, and the lines of a file, each
 // behind a blank.
+use crate::names::name_of;
 use acct_outside::Name;
 use acct_text::{Bytes, Tab, push_decimal};
 use memory_folder::MemoryFolder;
-use real_folder::name_of;
 use std::alloc::{AllocError, Global};
 use whole_commands::{Streams, push_done};
 

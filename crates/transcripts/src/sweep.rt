@@ -1,5 +1,5 @@
 // Lines that are played for each number of a range, each time in a new scene.
-use crate::counts::counted;
+use crate::names::counted;
 use crate::scene::Scene;
 use crate::shown::{push_line, push_run};
 use acct_text::{Bytes, push_decimal, read_decimal};
