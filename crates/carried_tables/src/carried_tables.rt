@@ -14,7 +14,7 @@ use acct_text::{Files, NewTables, Tab};
 use std::alloc::{AllocError, Global};
 use std::marker::Model;
 use std::mem::replace;
-use table::{KeyedRecord, Table};
+use table::{Checked, KeyedRecord, Table};
 use tool_answers::ToolFault;
 
 // The places of the lines that a script changes, as far as they are told.
@@ -161,10 +161,20 @@ impl<'a> CarriedTables<'a> {
         requires { IsWrittenScript (seen_script script.now) }
         ensures { CarriesOut (seen_script script.now) self.old self.new result }
     {
-        match self.check(alloc, script)? {
-            Ok(places) => self.edit(alloc, script, &places),
-            Err(refusal) => Err(ToolFault::Refused(refusal)),
-        }
+        let places = match self.check(alloc, script)? {
+            Ok(places) => places,
+            Err(refusal) => return Err(ToolFault::Refused(refusal)),
+        };
+        Ok(TouchedTables {
+            passwd: self.passwd.edit(alloc, &script.passwd, &places.passwd)?,
+            shadow: self.shadow.edit_at(alloc, &script.shadow, &places.shadow)?,
+            group: self.group.edit(alloc, &script.group, &places.group)?,
+            gshadow: self
+                .gshadow
+                .edit_at(alloc, &script.gshadow, &places.gshadow)?,
+            subuid: self.subuid.edit(alloc, &script.subuid)?,
+            subgid: self.subgid.edit(alloc, &script.subgid)?,
+        })
     }
 
     // The places that the edits change, as far as they are told; or the refusal of the first record that the
@@ -178,51 +188,40 @@ impl<'a> CarriedTables<'a> {
         ensures checked { IfOk result (IsChecked (seen_script script.now) self.old) }
         ensures same { self.new ≡ self.old }
     {
-        let passwd = self.passwd.check(alloc, &script.passwd)?;
-        if let Some(name) = passwd.multiple {
+        let Checked {
+            multiple,
+            places: passwd,
+        } = self.passwd.check(alloc, &script.passwd)?;
+        if let Some(name) = multiple {
             return Ok(Err(Refusal::Multiple(Tab::Passwd, name)));
         }
-        let shadow = self.shadow.check(alloc, &script.shadow)?;
-        if let Some(name) = shadow.multiple {
+        let Checked {
+            multiple,
+            places: shadow,
+        } = self.shadow.check(alloc, &script.shadow)?;
+        if let Some(name) = multiple {
             return Ok(Err(Refusal::Multiple(Tab::Shadow, name)));
         }
-        let group = self.group.check(alloc, &script.group)?;
-        if let Some(name) = group.multiple {
+        let Checked {
+            multiple,
+            places: group,
+        } = self.group.check(alloc, &script.group)?;
+        if let Some(name) = multiple {
             return Ok(Err(Refusal::Multiple(Tab::Group, name)));
         }
-        let gshadow = self.gshadow.check(alloc, &script.gshadow)?;
-        if let Some(name) = gshadow.multiple {
+        let Checked {
+            multiple,
+            places: gshadow,
+        } = self.gshadow.check(alloc, &script.gshadow)?;
+        if let Some(name) = multiple {
             return Ok(Err(Refusal::Multiple(Tab::Gshadow, name)));
         }
         Ok(Ok(EditPlaces {
-            passwd: passwd.places,
-            shadow: shadow.places,
-            group: group.places,
-            gshadow: gshadow.places,
+            passwd,
+            shadow,
+            group,
+            gshadow,
         }))
-    }
-
-    // Makes the edits of a script that touches no record of several of its name.
-    fn edit(
-        &mut self,
-        alloc: Global,
-        script: &Script,
-        places: &EditPlaces,
-    ) -> Result<TouchedTables, ToolFault>
-        requires written { IsWrittenScript (seen_script script.now) }
-        requires unmet { AreUnmet (seen_script script.now) self.old places.now }
-        ensures { CarriesOut (seen_script script.now) self.old self.new result }
-    {
-        Ok(TouchedTables {
-            passwd: self.passwd.edit(alloc, &script.passwd, &places.passwd)?,
-            shadow: self.shadow.edit_at(alloc, &script.shadow, &places.shadow)?,
-            group: self.group.edit(alloc, &script.group, &places.group)?,
-            gshadow: self
-                .gshadow
-                .edit_at(alloc, &script.gshadow, &places.gshadow)?,
-            subuid: self.subuid.edit(alloc, &script.subuid)?,
-            subgid: self.subgid.edit(alloc, &script.subgid)?,
-        })
     }
 
     /// Takes the tables out that differ from the first ones, in the fixed order, among those that may. What

@@ -166,7 +166,10 @@ impl<'a, R: IdRecord + Drop> IdTable<'a, R> {
     {
         if self.ids.is_none() || !self.table.is_there() {
             self.ids = None;
-            return self.table.edit_at(alloc, edits, places);
+            return match places {
+                [] => self.table.edit(alloc, edits),
+                _ => self.table.edit_at(alloc, edits, places),
+            };
         }
         let mut left = edits;
         'edits: while !left.is_empty() {
