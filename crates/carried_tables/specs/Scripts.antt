@@ -5,7 +5,6 @@ use Rattle.acct_text.specs.declared.files.Files.{Files}
 use Rattle.account_model.specs.Action.{multiple_entries}
 use Rattle.account_model.specs.Records.{group_format, gshadow_format, passwd_format, shadow_format}
 use Rattle.account_model.specs.Tables as model
-use Rattle.account_model.specs.declared.refusal.Refusal.{Refusal}
 use Rattle.carried_tables.specs.Changes.{UneditedStay}
 use Rattle.carried_tables.specs.declared.carried_tables.EditPlaces.{EditPlaces}
 use Rattle.carried_tables.specs.declared.script.Script.{Script}
@@ -44,9 +43,10 @@ pub record AreUnmet (script : model.Script) (files : Files) (places : EditPlaces
   pub gshadow : AreEditedIn gshadow_format script.gshadow files.gshadow places.gshadow.items
 
 -- what is known of a script before its edits are made: where, or why they aren't
-abbrev pub IsChecked : model.Script → Files → Result EditPlaces Refusal → Type 0
+abbrev pub IsChecked : model.Script → Files → Result EditPlaces ToolFault → Type 0
 IsChecked script files (Ok places) = AreUnmet script files places
-IsChecked script files (Err refusal) = Some refusal ≡ multiple_entries script files
+IsChecked script files (Err (Refused refusal)) = Some refusal ≡ multiple_entries script files
+IsChecked script files (Err Memory) = ⊤
 
 -- the script touches no record whose name has several, its edits are made, and they leave each table
 -- but these

@@ -1,11 +1,11 @@
 // The tables that commands carry from one to the next (passwd(5), shadow(5), group(5), gshadow(5),
 // subuid(5), subgid(5)).
-ghost use Rattle.std.specs.Prelude.{◌≡◌, ◌++◌, [], false, is_some, IfOk, OnOk};
+ghost use Rattle.std.specs.Prelude.{◌≡◌, ◌++◌, [], false, None, Some, is_some, option_map, IfErr, IfOk, OnOk};
 ghost use Rattle.acct_text.specs.ChangedTables.{changed_bytes, changed_tables, with_new_table};
 ghost use Rattle.acct_text.specs.Files.{table_of};
 ghost use Rattle.account_model.specs.WrittenScript.{IsWrittenScript};
 ghost use Rattle.carried_tables.specs.Changes.{UneditedStay, StandWhere, is_touched};
-ghost use Rattle.carried_tables.specs.Scripts.{AreUnmet, CarriesOut, IsChecked, seen_script};
+ghost use Rattle.carried_tables.specs.Scripts.{CarriesOut, IsChecked, seen_script};
 
 use crate::{IdTable, RangeTable, Script, TouchedTables};
 use account_model::Refusal;
@@ -161,10 +161,7 @@ impl<'a> CarriedTables<'a> {
         requires { IsWrittenScript (seen_script script.now) }
         ensures { CarriesOut (seen_script script.now) self.old self.new result }
     {
-        let places = match self.check(alloc, script)? {
-            Ok(places) => places,
-            Err(refusal) => return Err(ToolFault::Refused(refusal)),
-        };
+        let places = self.check(alloc, script)?;
         Ok(TouchedTables {
             passwd: self.passwd.edit(alloc, &script.passwd, &places.passwd)?,
             shadow: self.shadow.edit_at(alloc, &script.shadow, &places.shadow)?,
@@ -177,51 +174,20 @@ impl<'a> CarriedTables<'a> {
         })
     }
 
-    // The places that the edits change, as far as they are told; or the refusal of the first record that the
-    // script touches and whose name has several.
-    fn check(
-        &mut self,
-        alloc: Global,
-        script: &Script,
-    ) -> Result<Result<EditPlaces, Refusal>, AllocError>
+    // The places that the edits change, as far as they are told.
+    //
+    // At `Refused` the script touches a record whose name has several, the first such.
+    fn check(&mut self, alloc: Global, script: &Script) -> Result<EditPlaces, ToolFault>
         requires { IsWrittenScript (seen_script script.now) }
-        ensures checked { IfOk result (IsChecked (seen_script script.now) self.old) }
+        ensures checked { IsChecked (seen_script script.now) self.old result }
         ensures same { self.new ≡ self.old }
     {
-        let Checked {
-            multiple,
-            places: passwd,
-        } = self.passwd.check(alloc, &script.passwd)?;
-        if let Some(name) = multiple {
-            return Ok(Err(Refusal::Multiple(Tab::Passwd, name)));
-        }
-        let Checked {
-            multiple,
-            places: shadow,
-        } = self.shadow.check(alloc, &script.shadow)?;
-        if let Some(name) = multiple {
-            return Ok(Err(Refusal::Multiple(Tab::Shadow, name)));
-        }
-        let Checked {
-            multiple,
-            places: group,
-        } = self.group.check(alloc, &script.group)?;
-        if let Some(name) = multiple {
-            return Ok(Err(Refusal::Multiple(Tab::Group, name)));
-        }
-        let Checked {
-            multiple,
-            places: gshadow,
-        } = self.gshadow.check(alloc, &script.gshadow)?;
-        if let Some(name) = multiple {
-            return Ok(Err(Refusal::Multiple(Tab::Gshadow, name)));
-        }
-        Ok(Ok(EditPlaces {
-            passwd,
-            shadow,
-            group,
-            gshadow,
-        }))
+        Ok(EditPlaces {
+            passwd: places_in(Tab::Passwd, self.passwd.check(alloc, &script.passwd)?)?,
+            shadow: places_in(Tab::Shadow, self.shadow.check(alloc, &script.shadow)?)?,
+            group: places_in(Tab::Group, self.group.check(alloc, &script.group)?)?,
+            gshadow: places_in(Tab::Gshadow, self.gshadow.check(alloc, &script.gshadow)?)?,
+        })
     }
 
     /// Takes the tables out that differ from the first ones, in the fixed order, among those that may. What
@@ -251,6 +217,20 @@ impl<'a> CarriedTables<'a> {
         let subgid = self.subgid.take(alloc);
         push_change(&mut tables, Tab::Subgid, first, touched, subgid)?;
         Ok(tables)
+    }
+}
+
+// The places of the edits of a table that meet no name with several records.
+fn places_in(tab: Tab, checked: Checked) -> Result<Vec<usize>, ToolFault>
+    ensures found { IfOk result (λ places.
+        (checked.multiple ≡ None) × (places ≡ checked.places)) }
+    ensures refused { IfErr result (λ fault. Some fault ≡
+        option_map (λ name. ToolFault.Refused (Refusal.Multiple tab name)) checked.multiple) }
+{
+    let Checked { multiple, places } = checked;
+    match multiple {
+        Some(name) => Err(ToolFault::Refused(Refusal::Multiple(tab, name))),
+        None => Ok(places),
     }
 }
 
